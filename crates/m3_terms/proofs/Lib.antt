@@ -1,0 +1,3 @@
+pub mod TextFronts
+pub mod TextHad
+pub mod TextLaws

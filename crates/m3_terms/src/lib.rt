@@ -1,0 +1,26 @@
+//! Texts, terms and triples: the facts that programs of one place share.
+#![tactic(auto)]
+
+mod bytes;
+mod items;
+mod memory;
+mod order;
+mod pattern;
+mod steps;
+mod table;
+mod term;
+mod text;
+mod triple;
+
+pub use bytes::Bytes;
+pub use items::{Columns, Items, Patterns, Row, Rows, TermList, Triples};
+pub use memory::NoMemory;
+pub use pattern::{Pattern, Slot};
+pub use steps::Steps;
+pub use table::{TermId, TermTable};
+pub use term::{Term, TermFault};
+pub use text::Text;
+pub use triple::Triple;
+
+#[cfg(test)]
+mod tests;
