@@ -1,0 +1,15 @@
+pub mod Front
+pub mod Characters
+pub mod Text
+pub mod Attribute
+pub mod Element
+pub mod Head
+pub mod Triples
+pub mod Table
+pub mod Parameter
+pub mod Message
+pub mod Stream
+pub mod Vectors
+pub mod Sayable
+pub mod Laws
+pub mod Examples
