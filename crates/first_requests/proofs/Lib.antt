@@ -1,0 +1,5 @@
+pub mod Escaped
+pub mod Tagged
+pub mod Objects
+pub mod Spelled
+pub mod Taken
