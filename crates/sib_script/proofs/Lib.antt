@@ -1,0 +1,4 @@
+pub mod ScriptLaws
+pub mod Counts
+pub mod Steps
+pub mod Reading

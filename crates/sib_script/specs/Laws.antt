@@ -1,0 +1,50 @@
+-- What holds of the format of a script.
+use Rattle.std.specs.Prelude.{◌≡◌, ◌⊎◌, ℕ, ◌<◌, Bool, true, false, List, [], ◌∷◌, ◌++◌, length}
+use Rattle.sib_script.specs.Script.{entry_spelling, script_spelling, MayCome, AreEntries, opened_by, IsScript, BeginsScript, Splits}
+use Rattle.sib_script.specs.Reading.{IsPart, IsNoPart}
+use Rattle.sib_script.specs.declared.entry.Entry.{Entry}
+
+-- bytes begin with at most one entry that may come, so no such entry's spelling begins another's
+abbrev pub EntriesAreTold : Type 0
+EntriesAreTold = (opened : Bool) (entry other : Entry) (rest left : List ℕ) → MayCome opened entry → MayCome opened other
+    → entry_spelling entry ++ rest ≡ entry_spelling other ++ left → (entry ≡ other) × (rest ≡ left)
+
+-- bytes are split into whole entries and a rest in one way
+abbrev pub SplitsOnce : Type 0
+SplitsOnce = (bytes : List ℕ) (entries others : List Entry) (rest left : List ℕ) → Splits bytes entries rest
+    → Splits bytes others left → (entries ≡ others) × (rest ≡ left)
+
+-- where more bytes follow, the entries so far stay and others may follow
+abbrev pub SplitsGrow : Type 0
+SplitsGrow = (bytes more : List ℕ) (entries others : List Entry) (rest left : List ℕ) → Splits bytes entries rest
+    → Splits (bytes ++ more) others left → (tail : List Entry) × (others ≡ entries ++ tail)
+
+-- nothing is left of a script
+abbrev pub ScriptsSplit : Type 0
+ScriptsSplit = (bytes : List ℕ) (entries : List Entry) → IsScript bytes entries → Splits bytes entries []
+
+-- bytes of which something is left are no script
+abbrev pub RestIsNoScript : Type 0
+RestIsNoScript = (bytes : List ℕ) (entries : List Entry) (rest : List ℕ) → Splits bytes entries rest → 0 < length rest
+    → (others : List Entry) → ¬ IsScript bytes others
+
+-- entries and then nothing or a part of one that may come next are so split, and some script begins with them
+abbrev pub PartsSplit : Type 0
+PartsSplit = (bytes : List ℕ) (entries : List Entry) (unread : List ℕ) → AreEntries false entries
+    → bytes ≡ script_spelling entries ++ unread → (IsPart (opened_by entries) unread ⊎ (unread ≡ []))
+    → Splits bytes entries unread × BeginsScript bytes
+
+-- where a byte follows that no entry goes on with, no script begins so, and no entry is added, whatever follows
+abbrev pub DeadEnds : Type 0
+DeadEnds = (bytes : List ℕ) (entries : List Entry) (unread : List ℕ) (byte : ℕ) (more : List ℕ) → AreEntries false entries
+    → bytes ≡ script_spelling entries ++ unread → (IsPart (opened_by entries) unread ⊎ (unread ≡ []))
+    → IsNoPart (opened_by entries) (unread ++ byte ∷ [])
+    → ¬ (BeginsScript (bytes ++ byte ∷ more)) × Splits (bytes ++ byte ∷ more) entries (unread ++ byte ∷ more)
+
+-- an entry may be put after others exactly where it may come next, and opens the link
+abbrev pub EntriesGrow : Type 0
+EntriesGrow = (entries : List Entry) (entry : Entry)
+    → (AreEntries false (entries ++ entry ∷ []) → AreEntries false entries × MayCome (opened_by entries) entry)
+    × (AreEntries false entries → MayCome (opened_by entries) entry → AreEntries false (entries ++ entry ∷ []))
+    × (script_spelling (entries ++ entry ∷ []) ≡ script_spelling entries ++ entry_spelling entry)
+    × (opened_by (entries ++ entry ∷ []) ≡ true)

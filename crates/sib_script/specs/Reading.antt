@@ -1,0 +1,71 @@
+-- What a reader of scripts stands for, and what a call of it does.
+use Rattle.std.specs.Prelude.{◌≡◌, ◌≢◌, ◌⊎◌, ℕ, ◌+◌, ◌<◌, ◌≤◌, Bool, true, false, List, [], ◌∷◌, ◌++◌, length, take, drop, Option, Some, None, Result, Ok, Err}
+use Rattle.sib_script.specs.Script.{entry_spelling, MayCome}
+use Rattle.sib_script.specs.declared.entry.Entry.{Entry}
+use Rattle.sib_script.specs.declared.reader.ScriptFault.{ScriptFault}
+use Rattle.sib_script.specs.declared.reader.ScriptFault.TheVariants.{BadScript, NoMemory}
+
+-- a reader: whether a link was opened, the bytes since the last whole entry, the entry that waits, how many bytes
+-- were taken, and whether it met a fault
+pub record Reading : Type 0 where
+  pub opened : Bool
+  pub unread : List ℕ
+  pub waiting : Option Entry
+  pub taken : ℕ
+  pub stopped : Bool
+
+-- a reader that has taken nothing
+abbrev pub fresh : Reading
+fresh = record { opened = false; unread = []; waiting = None; taken = 0; stopped = false }
+
+-- bytes begin the spelling of an entry that may come next, and are not the whole of it
+abbrev pub IsPart : Bool → List ℕ → Type 0
+IsPart opened bytes = (entry : Entry) × (more : List ℕ) × MayCome opened entry × (0 < length more) × (bytes ++ more ≡ entry_spelling entry)
+
+-- no entry that may come next has a spelling that begins with these bytes
+abbrev pub IsNoPart : Bool → List ℕ → Type 0
+IsNoPart opened bytes = (entry : Entry) (more : List ℕ) → MayCome opened entry → bytes ++ more ≢ entry_spelling entry
+
+-- a fault stands at the first of these bytes
+abbrev pub FaultStands : Reading → List ℕ → Type 0
+FaultStands reading [] = ⊥
+FaultStands reading (byte ∷ bytes) = IsNoPart reading.opened (reading.unread ++ byte ∷ [])
+
+-- a reader in which no entry waits takes the piece: it ends an entry, which waits then, or all of it or what comes
+-- before a fault is part of one
+abbrev pub TakesPiece : Reading → List ℕ → List ℕ → Option Entry → Reading → Type 0
+TakesPiece old piece rest (Some entry) new = MayCome old.opened entry × (old.unread ++ piece ≡ entry_spelling entry)
+    × (new ≡ record old { opened = true; unread = []; waiting = Some entry; taken = old.taken + length piece })
+TakesPiece old piece rest None new = (new ≡ record old { unread = old.unread ++ piece; taken = old.taken + length piece })
+    × (rest ≢ [] → (0 < length piece) × FaultStands new rest)
+
+-- while an entry waits nothing is taken
+abbrev pub FeedsWaiting : Reading → Option Entry → List ℕ → ℕ → Reading → Type 0
+FeedsWaiting old (Some entry) bytes count new = (count ≡ 0) × (new ≡ old)
+FeedsWaiting old None bytes count new = (old.stopped ≡ false) × TakesPiece old (take count bytes) (drop count bytes) new.waiting new
+
+-- a call with these bytes took so many of them
+pub record Feeds (old : Reading) (bytes : List ℕ) (count : ℕ) (new : Reading) : Type 0 where
+  pub within : count ≤ length bytes
+  pub part : IsPart new.opened new.unread ⊎ (new.unread ≡ [])
+  pub does : FeedsWaiting old old.waiting bytes count new
+
+-- a call was refused: a fault stood before or stands at the next byte, and stands from then on; or there was no
+-- memory, and nothing changed
+abbrev pub Refuses : Reading → List ℕ → Reading → ScriptFault → Type 0
+Refuses old bytes new NoMemory = new ≡ old
+Refuses old bytes new (BadScript place) = (place ≡ old.taken) × (new ≡ record old { stopped = true })
+    × ((old.stopped ≡ true) ⊎ ((old.waiting ≡ None) × FaultStands old bytes))
+
+-- memory is wanted only where no entry waits, no fault was met and none stands at the first byte
+pub record IsMemoryWanted (old : Reading) (bytes : List ℕ) : Type 0 where
+  pub idle : old.waiting ≡ None
+  pub sound : old.stopped ≡ false
+  pub fine : ¬ FaultStands old bytes
+
+-- the end of the script: fine between entries, and a fault inside one, which stands from then on
+abbrev pub Ends : Reading → Result (Unit {0}) ScriptFault → Reading → Type 0
+Ends old (Ok done) new = (old.unread ≡ []) × (old.stopped ≡ false) × (new ≡ old)
+Ends old (Err NoMemory) new = ⊥
+Ends old (Err (BadScript place)) new = (place ≡ old.taken) × (new ≡ record old { stopped = true })
+    × ((old.stopped ≡ true) ⊎ (0 < length old.unread))

@@ -1,0 +1,28 @@
+//! Laws of the format of scripts. Each function does nothing: its contract is the law.
+
+ghost use Rattle.sib_script.specs.Laws.{EntriesAreTold, SplitsOnce, SplitsGrow, ScriptsSplit, RestIsNoScript, PartsSplit, DeadEnds, EntriesGrow};
+
+/// Bytes are read as entries in one way, and what was read stays as more bytes follow.
+pub fn one_reading()
+    ensures entries { EntriesAreTold }
+    ensures once { SplitsOnce }
+    ensures grow { SplitsGrow }
+{}
+
+/// A script is read whole: nothing is left exactly of scripts.
+pub fn scripts_are_whole()
+    ensures whole { ScriptsSplit }
+    ensures rest { RestIsNoScript }
+{}
+
+/// What a reader holds between two entries or inside one begins a script, and goes on so until a byte with which no
+/// entry goes on.
+pub fn parts_begin_scripts()
+    ensures parts { PartsSplit }
+    ensures dead_ends { DeadEnds }
+{}
+
+/// Entries are put together one by one.
+pub fn entries_grow()
+    ensures { EntriesGrow }
+{}
