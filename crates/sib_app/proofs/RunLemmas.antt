@@ -1,0 +1,190 @@
+-- What each status of a replay says of a source that tells its bytes.
+use Rattle.std.proofs.Common.{◌≡◌, ◌∙◌, ap, sym, refl, subst, arith, ℕ, ◌<◌, ◌≤◌, List, [], ◌∷◌, ◌++◌, ◌⊎◌, length, Option, Some, None, IfSome, codes, append-nil, append_assoc, length-append, inl, inr}
+use Rattle.std.specs.Io.KnownBytes.{Appends, Consumes, IsAtEnd, Keeps}
+use Rattle.std.proofs.KnownBytes.{Consumes-nil, Keeps-refl}
+use Rattle.sib_io.specs.Causes.{Rose, AppendsPart}
+use Rattle.sib_io.proofs.KnownLemmas.{whole_part, kept_part, part_kept}
+use Rattle.sib_script.specs.declared.entry.Entry.{Entry}
+use Rattle.sib_script.specs.Script.{entry_spelling, script_spelling, Splits, IsScript, BeginsScript}
+use Rattle.sib_script.proofs.ScriptLaws.{splits_script, splits_unique, inside_no_script, script_spelling-push, heads_same, tails_same, fronts, Shorter, Longer}
+use Rattle.first_requests.proofs.Taken.{taken_once_law}
+use Rattle.sib_app.specs.Output.{answers, farewell, AreTaken, IsOutput}
+use Rattle.sib_app.specs.Ending.{Outside, Ended, Outcome, GivesPart, GivesAnswers, GivesAll, GivesBefore, IsReplay, status_of}
+use Rattle.sib_app.specs.Session.{GivesFront}
+use Rattle.sib_app.specs.declared.ending.TheConstants.{INPUT_LIMIT}
+use Rattle.sib_app.specs.declared.ending.Ending.{Ending}
+use Rattle.sib_app.specs.declared.ending.Ending.TheVariants.{Done, BadScript, ReadFault, WriteFault, NoMemory, Spent}
+use Rattle.sib_app.proofs.OutputLemmas.{told_same}
+use Rattle.sib_app.proofs.ReplayLemmas.{front_of_output}
+use Rattle.sib_app.proofs.EndLemmas.{rose_earlier}
+
+-- what is left behind the bytes that were read, of a source that tells
+left_behind : (old new : Option (List ℕ)) (read all : List ℕ) → Consumes old new read → old ≡ Some all → (more : List ℕ) × (new ≡ Some more) × (all ≡ read ++ more)
+left_behind None new read all c e = absurd (cc)
+left_behind (Some xs) None read all c e = absurd c
+left_behind (Some xs) (Some ys) read all c e = (ys, refl, same all xs e ∙ c)
+  where
+    same : (a x : List ℕ) → ◌≡◌ {A = Option (List ℕ)} (Some x) (Some a) → a ≡ x
+    same a x e = cc
+
+-- nothing is left behind all that was read
+all_read : (old new : Option (List ℕ)) (read all : List ℕ) → Consumes old new read → IsAtEnd new → old ≡ Some all → all ≡ read
+all_read old new read all c end e =
+    let (more, is, whole) = left_behind old new read all c e in
+    whole ∙ ap (λ l. read ++ l) (subst IsAtEnd is end) ∙ append-nil read
+
+-- a claim on what a source tells
+told : (P : List ℕ → Type 0) (o : Option (List ℕ)) → ((all : List ℕ) → o ≡ Some all → P all) → IfSome o P
+told P None f = tt
+told P (Some all) f = f all refl
+
+-- entries and a rest that no entry goes on with stay as more follows
+dead_stays : (b : List ℕ) (es : List Entry) (r more : List ℕ) → Splits b es r → ¬ (BeginsScript b) → Splits (b ++ more) es (r ++ more)
+dead_stays b es r more s dead = record {
+  allowed = s.allowed;
+  spelled = ap (λ l. l ++ more) s.spelled ∙ append_assoc (script_spelling es) r more;
+  partial = λ e m a h. elim (fronts r more (entry_spelling e) m h) as (λ _. ⊥) [
+    | Shorter k p q ↦ dead (
+      k,
+      es ++ e ∷ [],
+      record {
+        allowed = a;
+        spelled = ap (λ l. l ++ k) s.spelled ∙ append_assoc (script_spelling es) r k ∙ ap (λ l. script_spelling es ++ l) p ∙ sym (script_spelling-push es e);
+      },
+    )
+    | Longer k p q ↦ s.partial e k a (sym p)
+  ];
+}
+
+-- all that was given is a front of the output where the answers to the whole entries were
+front_of_answers : (name : List ℕ) (old new : Option (List ℕ)) (read rest : List ℕ) → GivesAnswers name old new read rest → GivesFront name old new read
+front_of_answers name old new read rest g =
+    front_of_output name old new read rest g.entries g.deliveries g.splits g.taken (whole_part old new (answers name g.deliveries) g.given)
+
+-- the whole output of a script is what was given
+all_of_output : (name : List ℕ) (old new : Option (List ℕ)) (read output : List ℕ) → GivesAll name old new read → IsOutput name read output → Appends old new output
+all_of_output name old new read output g (fs, left, gs, splits, taken, is) =
+    let same = splits_unique read g.entries fs [] left (splits_script read g.entries g.script) splits in
+    let gone : gs ≡ g.deliveries = told_same taken_once_law name g.entries g.deliveries gs g.taken (subst (λ l. AreTaken name l gs) (sym same.0) taken) in
+    subst (Appends old new) (ap (λ l. answers name g.deliveries ++ farewell name g.deliveries l) same.1
+    ∙ ap (λ ds. answers name ds ++ farewell name ds left) (sym gone) ∙ sym is) g.given
+
+module _ (name : List ℕ) (old new : Outside) where
+  -- an input that is a script was answered whole
+  pub ended_done : Ended name old new Done → IsAtEnd new.left × IfSome old.left (GivesAll name old.given new.given)
+  ended_done e =
+      let (below, end, gives) = e.outcome in
+      (end, told (GivesAll name old.given new.given) old.left (λ all is. subst (GivesAll name old.given new.given) (sym (all_read old.left new.left e.read all e.consumed end is)) gives))
+
+  -- an input that is no script was answered up to its first fault
+  pub ended_bad : Ended name old new BadScript → IfSome old.left (GivesBefore name old.given new.given)
+  ended_bad e =
+      let (below, rest, some, where_, gives) = e.outcome in
+      told (GivesBefore name old.given new.given) old.left (λ all is.
+      elim where_ as (λ _. GivesBefore name old.given new.given all) [
+        | inl dead ↦
+            let (more, left, whole) = left_behind old.left new.left e.read all e.consumed is in
+            subst (GivesBefore name old.given new.given) (sym whole) (
+              λ es s. dead (more, es, s),
+              rest ++ more,
+              record {
+                entries = gives.entries;
+                deliveries = gives.deliveries;
+                splits = dead_stays e.read gives.entries rest more gives.splits dead;
+                taken = gives.taken;
+                given = gives.given;
+              },
+            )
+        | inr end ↦ subst (GivesBefore name old.given new.given) (sym (all_read old.left new.left e.read all e.consumed end is))
+            (λ es s. inside_no_script e.read gives.entries rest gives.splits some es s, rest, gives)
+      ])
+
+  -- what was given is a front of all that is written for the bytes that were read and those that are left
+  pub ended_left : (ending : Ending) → (e : Ended name old new ending) → GivesPart name old.given new.given e.read new.left
+  ended_left ending e = by_outcome ending e.outcome
+    where
+      by_outcome : (x : Ending) → Outcome name old new e.read x → GivesPart name old.given new.given e.read new.left
+      by_outcome Done (below, end, gives) more output left here =
+          whole_part old.given new.given output (all_of_output name old.given new.given e.read output gives
+          (subst (λ l. IsOutput name l output) (ap (λ l. e.read ++ l) (subst IsAtEnd left end) ∙ append-nil e.read) here))
+      by_outcome BadScript (below, rest, some, where_, gives) more output left here = front_of_answers name old.given new.given e.read rest gives more output here
+      by_outcome ReadFault (below, rose, begins, rest, gives) more output left here = front_of_answers name old.given new.given e.read rest gives more output here
+      by_outcome WriteFault (rose, part) more output left here = part more output left here
+      by_outcome NoMemory part more output left here = part more output left here
+      by_outcome Spent (full, part) more output left here = part more output left here
+
+  -- what was given is a front of the whole output
+  pub ended_part : (ending : Ending) (all output : List ℕ) → Ended name old new ending → old.left ≡ Some all → IsOutput name all output → AppendsPart old.given new.given output
+  ended_part ending all output e is o =
+      let (more, left, whole) = left_behind old.left new.left e.read all e.consumed is in
+      ended_left ending e more output left (subst (λ l. IsOutput name l output) whole o)
+
+  -- so many bytes were there
+  pub ended_spent : Ended name old new Spent → IfSome old.left (λ all. INPUT_LIMIT ≤ length all)
+  ended_spent e =
+      told (λ all. INPUT_LIMIT ≤ length all) old.left (λ all is.
+      let (more, left, whole) = left_behind old.left new.left e.read all e.consumed is in
+      omega (arith, e.outcome.0, ap length whole, length-append e.read more))
+
+  -- a script is answered whole where the outside is honest and memory is found
+  pub ended_complete : (ending : Ending) (all : List ℕ) (entries : List Entry) → Ended name old new ending → old.left ≡ Some all → IsScript all entries → length all < INPUT_LIMIT
+      → ¬ (Rose old.read_faults new.read_faults) → ¬ (Rose old.write_faults new.write_faults) → (status_of ending ≡ 0) ⊎ (status_of ending ≡ 6)
+  ended_complete Done all entries e is s short reads writes = inl refl
+  ended_complete NoMemory all entries e is s short reads writes = inr refl
+  ended_complete ReadFault all entries e is s short reads writes = absurd (reads e.outcome.1)
+  ended_complete WriteFault all entries e is s short reads writes = absurd (writes e.outcome.0)
+  ended_complete BadScript all entries e is s short reads writes = absurd (not_bad (ended_bad e))
+    where
+      not_bad : IfSome old.left (GivesBefore name old.given new.given) → ⊥
+      not_bad b = (subst (λ o. IfSome o (GivesBefore name old.given new.given)) is b).0 entries s
+  ended_complete Spent all entries e is s short reads writes = absurd (not_spent (ended_spent e))
+    where
+      not_spent : IfSome old.left (λ all. INPUT_LIMIT ≤ length all) → ⊥
+      not_spent b = let full = subst (λ o. IfSome o (λ all. INPUT_LIMIT ≤ length all)) is b in omega (arith, full)
+
+-- a flush that fails makes a fault of the sink of any ending
+pub ended_unflushed : (name : List ℕ) (old mid next : Outside) (ending : Ending) → Ended name old mid ending → next.left ≡ mid.left → Keeps mid.given next.given
+    → next.read_faults ≡ mid.read_faults → mid.write_faults ≤ next.write_faults → Rose mid.write_faults next.write_faults → Ended name old next WriteFault
+ended_unflushed name old mid next ending e left kept reads writes rose = record {
+  read = e.read;
+  consumed = subst (λ o. Consumes old.left o e.read) (sym left) e.consumed;
+  read_later = omega (arith, e.read_later, reads);
+  write_later = omega (arith, e.write_later, writes);
+  limited = e.limited;
+  outcome = (
+    rose_earlier old.write_faults mid.write_faults next.write_faults e.write_later rose,
+    λ more output l o.
+        part_kept old.given mid.given next.given output (ended_left name old mid ending e more output (sym left ∙ l) o) kept,
+  );
+}
+
+-- the words name one space
+pub same_name : (words : List (List ℕ)) (a b : List ℕ) → IsReplay words a → IsReplay words b → a ≡ b
+same_name words a b s t =
+    let both = sym s.said ∙ t.said in
+    heads_same a b [] [] (tails_same (codes "replay") (codes "replay") (a ∷ []) (b ∷ []) both)
+
+-- only a bad script has status 3
+bad_status : (ending : Ending) → status_of ending ≡ 3 → ending ≡ BadScript
+bad_status Done e = absurd (cc)
+bad_status BadScript e = refl
+bad_status ReadFault e = absurd (cc)
+bad_status WriteFault e = absurd (cc)
+bad_status NoMemory e = absurd (cc)
+bad_status Spent e = absurd (cc)
+
+-- what status 3 says
+pub bad_told : (name : List ℕ) (old new : Outside) (ending : Ending) (status : ℕ) → Ended name old new ending → status ≡ status_of ending → status ≡ 3
+    → IfSome old.left (GivesBefore name old.given new.given)
+bad_told name old new ending status e is three = ended_bad name old new (subst (Ended name old new) (bad_status ending (sym is ∙ three)) e)
+
+-- without memory nothing was read and nothing written
+pub unstarted : (name : List ℕ) (now : Outside) → Ended name now now NoMemory
+unstarted name now = record {
+  read = [];
+  consumed = Consumes-nil now.left;
+  read_later = omega arith;
+  write_later = omega arith;
+  limited = omega arith;
+  outcome = λ more output l o. kept_part now.given now.given output (Keeps-refl now.given);
+}

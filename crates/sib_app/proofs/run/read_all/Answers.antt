@@ -1,0 +1,26 @@
+use Rattle.std.proofs.Common.{arith, [], ◌++◌}
+use Rattle.sib_app.proofs.TurnLemmas.{turns_start}
+use Rattle.sib_app.proofs.run.read_all.Goals as goal
+
+-- nothing was read yet
+pub loop-count-init : goal.loop-count-init
+loop-count-init g c = record {
+  some = omega arith;
+  read = ([], turns_start c.args.name _ c.new-replay.result c.new-replay.ensures.reader c.new-replay.ensures.session);
+}
+
+-- a piece more was read and answered
+pub loop-count-preserved : goal.loop-count-preserved
+loop-count-preserved g c =
+    let (read, turns) = c.loop-count.invariant.read in
+    let (piece, more) = c.in-Ok.ensures.ok c.args.name _ read turns in
+    record {
+      some = omega (arith, c.in-Ok.ensures.within);
+      read = (read ++ piece, more);
+    }
+
+-- the replay ended
+pub returns-in-Err : goal.returns-in-Err
+returns-in-Err g c =
+    let (read, turns) = c.loop-count.invariant.read in
+    c.in-Err.ensures.err c.args.name _ read turns

@@ -1,0 +1,86 @@
+-- How a replay ends, and what it has read and written then.
+use Rattle.std.specs.Prelude.{◌≡◌, ℕ, ◌≤◌, ◌<◌, ◌⊎◌, List, [], ◌∷◌, ◌++◌, length, map, codes, Option, Some, string_bytes, String}
+use Rattle.std.specs.Global.{Global}
+use Rattle.std.specs.Io.KnownBytes.{Appends, Consumes, IsAtEnd}
+use Rattle.sib_io.specs.Causes.{Rose, AppendsPart}
+use Rattle.first_requests.specs.Requests.{IsIdentifier}
+use Rattle.sib_script.specs.declared.entry.Entry.{Entry}
+use Rattle.sib_script.specs.Script.{IsScript, BeginsScript, Splits}
+use Rattle.sib_app.specs.Output.{Delivery, AreTaken, space_after, answers, last_line, IsOutput}
+use Rattle.sib_app.specs.declared.ending.TheConstants.{INPUT_LIMIT}
+use Rattle.sib_app.specs.declared.ending.Ending.{Ending}
+use Rattle.sib_app.specs.declared.ending.Ending.TheVariants.{Done, BadScript, ReadFault, WriteFault, NoMemory, Spent}
+
+-- the bytes of the words
+abbrev pub texts : List (String Global) → List (List ℕ)
+texts words = map string_bytes words
+
+-- the words of a replay in the space of this name
+pub record IsReplay (words : List (List ℕ)) (name : List ℕ) : Type 0 where
+  pub said : words ≡ codes "replay" ∷ name ∷ []
+  pub named : IsIdentifier name
+
+-- what is seen of a source and a sink: what is left, what was given, and their counts of faults
+pub record Outside : Type 0 where
+  pub left : Option (List ℕ)
+  pub given : Option (List ℕ)
+  pub read_faults : ℕ
+  pub write_faults : ℕ
+
+-- the status of an ending
+abbrev pub status_of : Ending → ℕ
+status_of Done = 0
+status_of BadScript = 3
+status_of ReadFault = 4
+status_of WriteFault = 5
+status_of NoMemory = 6
+status_of Spent = 7
+
+-- what was given is a front of all that is written for the bytes that were read and those that are left, where the
+-- source tells them
+abbrev pub GivesPart : List ℕ → Option (List ℕ) → Option (List ℕ) → List ℕ → Option (List ℕ) → Type 0
+GivesPart name old new read left = (more output : List ℕ) → left ≡ Some more → IsOutput name (read ++ more) output → AppendsPart old new output
+
+-- the answers to the whole entries in the bytes that were read were given, and no more
+pub record GivesAnswers (name : List ℕ) (old new : Option (List ℕ)) (read rest : List ℕ) : Type 0 where
+  pub entries : List Entry
+  pub deliveries : List Delivery
+  pub splits : Splits read entries rest
+  pub taken : AreTaken name entries deliveries
+  pub given : Appends old new (answers name deliveries)
+
+-- the bytes that were read are a script, and its answers and the last line were given
+pub record GivesAll (name : List ℕ) (old new : Option (List ℕ)) (read : List ℕ) : Type 0 where
+  pub entries : List Entry
+  pub deliveries : List Delivery
+  pub script : IsScript read entries
+  pub taken : AreTaken name entries deliveries
+  pub given : Appends old new (answers name deliveries ++ last_line (space_after name deliveries))
+
+-- what holds at each ending, of the bytes that were read
+abbrev pub Outcome : List ℕ → Outside → Outside → List ℕ → Ending → Type 0
+Outcome name old new read Done = (length read < INPUT_LIMIT) × IsAtEnd new.left × GivesAll name old.given new.given read
+Outcome name old new read BadScript = (length read < INPUT_LIMIT) × (rest : List ℕ) × (0 < length rest)
+    × (¬ (BeginsScript read) ⊎ IsAtEnd new.left) × GivesAnswers name old.given new.given read rest
+Outcome name old new read ReadFault = (length read < INPUT_LIMIT) × Rose old.read_faults new.read_faults
+    × BeginsScript read × (rest : List ℕ) × GivesAnswers name old.given new.given read rest
+Outcome name old new read WriteFault = Rose old.write_faults new.write_faults × GivesPart name old.given new.given read new.left
+Outcome name old new read NoMemory = GivesPart name old.given new.given read new.left
+Outcome name old new read Spent = (length read ≡ INPUT_LIMIT) × GivesPart name old.given new.given read new.left
+
+-- a replay ended so: it read some bytes, at most so many, and no count of faults fell
+pub record Ended (name : List ℕ) (old new : Outside) (ending : Ending) : Type 0 where
+  pub read : List ℕ
+  pub consumed : Consumes old.left new.left read
+  pub read_later : old.read_faults ≤ new.read_faults
+  pub write_later : old.write_faults ≤ new.write_faults
+  pub limited : length read ≤ INPUT_LIMIT
+  pub outcome : Outcome name old new read ending
+
+-- a status came of an ending
+abbrev pub Ends : List ℕ → Outside → Outside → ℕ → Type 0
+Ends name old new status = (ending : Ending) × (status ≡ status_of ending) × Ended name old new ending
+
+-- an input is no script, and the answers to the whole entries before its first fault were given
+abbrev pub GivesBefore : List ℕ → Option (List ℕ) → Option (List ℕ) → List ℕ → Type 0
+GivesBefore name old new input = ((entries : List Entry) → ¬ IsScript input entries) × (rest : List ℕ) × GivesAnswers name old new input rest

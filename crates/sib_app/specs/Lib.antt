@@ -1,0 +1,4 @@
+pub mod Output
+pub mod Ending
+pub mod Session
+pub mod Turn

@@ -1,0 +1,194 @@
+//! Runs of `replay X` over memory.
+
+ghost use Rattle.std.specs.Prelude.{◌≡◌, ◌<◌};
+
+use super::*;
+use m3_terms::{Bytes, Steps};
+use sib_io::{Calls, MemSink, MemSource};
+use std::alloc::Global;
+use std::marker::Brand;
+use std::process::Abort;
+use std::sync::ledger::{Blank, Ledger};
+use std::test::Fail;
+use std::thread::Threads;
+
+const JOIN: &str =
+    "<SSAP_message><message_type>REQUEST</message_type><transaction_type>JOIN</transaction_type><transaction_id>1</transaction_id><node_id>k</node_id><space_id>X</space_id></SSAP_message>";
+
+const INSERT: &str =
+    "<SSAP_message><message_type>REQUEST</message_type><transaction_type>INSERT</transaction_type><transaction_id>2</transaction_id><node_id>k</node_id><space_id>X</space_id><parameter name=\"insert_graph\" encoding=\"RDF-M3\"><triple_list><triple><subject type=\"uri\">lamp</subject><predicate>state</predicate><object type=\"literal\">on</object></triple></triple_list></parameter></SSAP_message>";
+
+const OTHERWISE: &str =
+    "<SSAP_message><node_id>k</node_id><space_id>X</space_id><transaction_type>JOIN</transaction_type><message_type>REQUEST</message_type><transaction_id>1</transaction_id><parameter name = \"credentials\">XYZZY</parameter></SSAP_message>";
+
+const JOINED: &str =
+    "<SSAP_message><message_type>CONFIRM</message_type><transaction_type>JOIN</transaction_type><transaction_id>1</transaction_id><node_id>k</node_id><space_id>X</space_id><parameter name=\"status\">m3:Success</parameter></SSAP_message>";
+
+const INSERTED: &str =
+    "<SSAP_message><message_type>CONFIRM</message_type><transaction_type>INSERT</transaction_type><transaction_id>2</transaction_id><node_id>k</node_id><space_id>X</space_id><parameter name=\"status\">m3:Success</parameter></SSAP_message>";
+
+const DENIED: &str =
+    "<SSAP_message><message_type>CONFIRM</message_type><transaction_type>INSERT</transaction_type><transaction_id>2</transaction_id><node_id>k</node_id><space_id>X</space_id><parameter name=\"status\">m3:SIB.Error.AccessDenied</parameter></SSAP_message>";
+
+/// How a run over memory is made: the second word, the most bytes a read gives, and which read and which write fail.
+#[derive(Clone, Copy)]
+struct Trial<'a> {
+    space: &'a str,
+    piece: usize,
+    failing_read: usize,
+    failing_write: usize,
+}
+
+const PLAIN: Trial<'static> = Trial {
+    space: "X",
+    piece: 4096,
+    failing_read: 0,
+    failing_write: 0,
+};
+
+fn one_call(alloc: Global, call: usize) -> Result<Calls, Fail> {
+    let mut calls = Calls::new(alloc);
+    if call > 0 {
+        calls.push(call)?;
+    }
+    Ok(calls)
+}
+
+fn counted<R: Threads + Sync, L: Ledger>(
+    alloc: Global,
+    rt: &R,
+    words: &[String],
+    source: &mut MemSource,
+    sink: &mut MemSink,
+    blank: Blank,
+) -> u8
+    requires name { blank.name ≡ L.name }
+    requires parts { blank.parts ≡ L.parts }
+    requires some { 0 < L.parts }
+{
+    let mut steps = Steps::<L>::new(blank);
+    sib_run(alloc, rt, words, source, sink, &mut steps)
+}
+
+/// The status of a run over this script, and what it wrote.
+fn replayed<R: Threads + Sync>(
+    alloc: Global,
+    rt: &R,
+    script: &str,
+    trial: Trial<'_>,
+) -> Result<(u8, Vec<u8>), Fail> {
+    let mut words = Vec::new(alloc);
+    words.push(String::from_str(alloc, "replay")?)?;
+    words.push(String::from_str(alloc, trial.space)?)?;
+    let bytes = Bytes::from_slice(alloc, script.as_bytes())?;
+    let mut source = MemSource::new(
+        bytes,
+        trial.piece.max(1),
+        one_call(alloc, trial.failing_read)?,
+    );
+    let mut sink = MemSink::new(alloc, 4096, one_call(alloc, trial.failing_write)?)?;
+    let status = counted::<R, Brand>(alloc, rt, &words, &mut source, &mut sink, Blank::new(1));
+    Ok((status, Vec::from_slice(alloc, sink.bytes().as_slice())?))
+}
+
+fn check<R: Threads + Sync + Abort>(
+    alloc: Global,
+    rt: &R,
+    script: &str,
+    trial: Trial<'_>,
+    status: u8,
+    output: &str,
+) -> Result<(), Fail> {
+    let (ended, written) = replayed(alloc, rt, script, trial)?;
+    assert_eq!(rt; ended, status, "the status of {script}");
+    assert!(rt;
+        written.as_slice() == output.as_bytes(),
+        "the output of {script}"
+    );
+    Ok(())
+}
+
+#[test]
+fn a_join_and_an_insert_in_any_pieces(rt: HostRuntime) -> Result<(), Fail> {
+    let alloc = rt.alloc();
+    let script = format!(in alloc; "+\n>1 182\n{JOIN}\n>1 385\n{INSERT}\n")?;
+    let output = format!(in alloc; "<1 229\n{JOINED}\n<1 231\n{INSERTED}\n= 1 1 0\n")?;
+    for piece in [1, 7, 4096] {
+        let trial = Trial {
+            space: "X",
+            piece,
+            failing_read: 0,
+            failing_write: 0,
+        };
+        check(alloc, &rt, &script, trial, 0, &output)?;
+    }
+    Ok(())
+}
+
+#[test]
+fn an_insert_of_a_stranger_and_a_stop(rt: HostRuntime) -> Result<(), Fail> {
+    let alloc = rt.alloc();
+    let stranger = format!(in alloc; "+\n>1 385\n{INSERT}\n")?;
+    let denied = format!(in alloc; "<1 246\n{DENIED}\n= 0 0 0\n")?;
+    check(alloc, &rt, &stranger, PLAIN, 0, &denied)?;
+    let otherwise = format!(in alloc; "+\n>1 231\n{OTHERWISE}\n")?;
+    check(alloc, &rt, &otherwise, PLAIN, 0, "!1 0 form\n= 0 0 0\n")?;
+    let stopped = format!(in alloc; "+\n>1 182\n{JOIN}\n>1 1\nx\n>1 385\n{INSERT}\n")?;
+    let lines = format!(in alloc; "<1 229\n{JOINED}\n!1 182 form\n!1 0 closed\n= 0 0 0\n")?;
+    check(alloc, &rt, &stopped, PLAIN, 0, &lines)
+}
+
+#[test]
+fn scripts_that_are_none(rt: HostRuntime) -> Result<(), Fail> {
+    let alloc = rt.alloc();
+    check(alloc, &rt, "", PLAIN, 0, "= 0 0 0\n")?;
+    for script in ["+", "x", "+\n+\n", "+\n>1 01\n", "+\n>1 3\nabcX", "+\n-1\n"] {
+        check(alloc, &rt, script, PLAIN, 3, "")?;
+    }
+    let inside = format!(in alloc; "+\n>1 182\n{JOIN}\n>1 5\nab")?;
+    let joined = format!(in alloc; "<1 229\n{JOINED}\n")?;
+    check(alloc, &rt, &inside, PLAIN, 3, &joined)
+}
+
+#[test]
+fn words_that_are_none(rt: HostRuntime) -> Result<(), Fail> {
+    let alloc = rt.alloc();
+    for space in ["", "\u{1}", "a\u{fffe}"] {
+        let trial = Trial {
+            space,
+            piece: 1,
+            failing_read: 0,
+            failing_write: 0,
+        };
+        check(alloc, &rt, "+\n", trial, 2, "")?;
+    }
+    Ok(())
+}
+
+#[test]
+fn each_read_and_each_write_fails_in_turn(rt: HostRuntime) -> Result<(), Fail> {
+    let alloc = rt.alloc();
+    let script = format!(in alloc; "+\n>1 182\n{JOIN}\n")?;
+    let whole = format!(in alloc; "<1 229\n{JOINED}\n= 0 0 0\n")?;
+    let joined = format!(in alloc; "<1 229\n{JOINED}\n")?;
+    // The script has 192 bytes: three reads give it, and the fourth finds its end.
+    for (failing_read, output) in [(1, ""), (2, ""), (3, ""), (4, joined.as_str())] {
+        let trial = Trial {
+            space: "X",
+            piece: 64,
+            failing_read,
+            failing_write: 0,
+        };
+        check(alloc, &rt, &script, trial, 4, output)?;
+    }
+    for (failing_write, output) in [(1, ""), (2, joined.as_str()), (3, whole.as_str())] {
+        let trial = Trial {
+            space: "X",
+            piece: 64,
+            failing_read: 0,
+            failing_write,
+        };
+        check(alloc, &rt, &script, trial, 5, output)?;
+    }
+    Ok(())
+}
