@@ -1,3 +1,4 @@
+pub mod Lists
 pub mod TextFronts
 pub mod TextHad
 pub mod TextLaws

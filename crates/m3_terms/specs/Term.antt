@@ -1,11 +1,15 @@
 -- Terms: uris and literals with their texts.
-use Rattle.std.specs.Prelude.{◌≡◌, ◌≢◌, ℕ, ◌≤◌, ◌<◌, List, [], length, ⊤}
+use Rattle.std.specs.Prelude.{◌≡◌, ◌≢◌, ℕ, ◌≤◌, ◌<◌, List, [], length, ⊤, refl}
 use Rattle.m3_terms.specs.Text.{IsText, FailsAt}
 use Rattle.m3_terms.specs.declared.term.TheConstants.{TERM_LIMIT}
 use Rattle.m3_terms.specs.declared.term.Term.{Term}
 use Rattle.m3_terms.specs.declared.term.Term.TheVariants.{Uri, Literal}
 use Rattle.m3_terms.specs.declared.term.TermFault.{TermFault}
 use Rattle.m3_terms.specs.declared.term.TermFault.TheVariants.{Empty, TooLong, NotText, NoMemory}
+
+-- a term's text has at most 4,096 bytes
+term_limit : TERM_LIMIT ≡ 4096
+term_limit = refl
 
 -- a literal's text: a text within the limit
 pub record IsLiteralText (bytes : List ℕ) : Type 0 where

@@ -19,7 +19,7 @@ pub use pattern::{Pattern, Slot};
 pub use steps::Steps;
 pub use table::{TermId, TermTable};
 pub use term::{Term, TermFault};
-pub use text::Text;
+pub use text::{Text, text_len};
 pub use triple::Triple;
 
 #[cfg(test)]

@@ -44,8 +44,8 @@ fn allowed_len(text: &str) -> usize
     }
 }
 
-/// The length of the longest front of the bytes that is a text.
-fn text_len(bytes: &[u8]) -> usize
+/// The length of the longest front of the bytes that is a text, so made of whole allowed characters.
+pub fn text_len(bytes: &[u8]) -> usize
     ensures within { result ≤ length bytes.now }
     ensures text { IsText (take result bytes.now) }
     ensures longest { (n : ℕ) → n ≤ length bytes.now → IsText (take n bytes.now) → n ≤ result }

@@ -9,7 +9,8 @@ use Rattle.m3_terms.specs.declared.triple.Triple.{Triple}
 use Rattle.m3_terms.specs.Order.{text_cmp, triple_cmp}
 use Rattle.m3_terms.specs.OrderLaws.{text_cmp_total, triple_cmp_total, text_cmp_exact, triple_cmp_exact}
 use Rattle.m3_terms.specs.InsertedLaws.{inserted_is}
-use Rattle.session_core.specs.Space.{Space, IsInOrder, with_node, with_triple, counted}
+use Rattle.m3_terms.specs.Counts.{one_more}
+use Rattle.session_core.specs.Space.{Space, IsInOrder, with_node, with_triple}
 
 -- a node that is put into the set joined
 pub node_joined : (space : Space) (node : List ℕ) (joined : List (List ℕ)) → IsInOrder space → joined ≡ insert_key text_cmp space.joined node
@@ -19,7 +20,7 @@ node_joined space node joined ordered e =
 
 -- a triple that is put into the set, and one update more
 pub triple_inserted : (space : Space) (triple : Triple) (graph : List Triple) (updates : ℕ) → IsInOrder space → graph ≡ insert_key triple_cmp space.graph triple
-    → updates ≡ counted space.updates → record space { graph = graph; updates = updates } ≡ with_triple space triple
+    → updates ≡ one_more space.updates → record space { graph = graph; updates = updates } ≡ with_triple space triple
 triple_inserted space triple graph updates ordered e f =
     let g = e ∙ sym (inserted_is triple_cmp_total (λ s t. (triple_cmp_exact s t).0) triple space.graph ordered.graph) in
     λ i. record space { graph = g i; updates = f i }

@@ -1,5 +1,5 @@
 -- A space, and what a request does to it.
-use Rattle.std.specs.Prelude.{◌≡◌, ℕ, ◌+◌, ◌-◌, ◌^◌, min, Bool, true, false, if◌then◌else◌, List, [], ◌∷◌, codes, None, refl}
+use Rattle.std.specs.Prelude.{◌≡◌, ℕ, Bool, true, false, if◌then◌else◌, List, [], ◌∷◌, codes, None, refl}
 use Rattle.std.specs.List.{list_any}
 use Rattle.std.specs.List.Sorted.{IsStrictlySortedBy}
 use Rattle.std.specs.Str.{bytes_eq}
@@ -16,6 +16,7 @@ use Rattle.ssap_items.specs.declared.envelope.Envelope.{Envelope}
 use Rattle.session_core.specs.declared.request.FirstAsk.{FirstAsk}
 use Rattle.session_core.specs.declared.request.FirstAsk.TheVariants.{Join, Insert}
 use Rattle.session_core.specs.declared.request.FirstRequest.{FirstRequest}
+use Rattle.m3_terms.specs.Counts.{one_more}
 
 -- a space: its name, the nodes that joined and the graph, both in order and without doubles, and how many updates were accepted
 pub record Space : Type 0 where
@@ -42,17 +43,14 @@ abbrev pub is_granted : Space → List ℕ → FirstAsk → Bool
 is_granted space node Join = true
 is_granted space node (Insert triple) = is_member space node
 
--- one accepted update more; the number stands still at the greatest u64
-abbrev pub counted : ℕ → ℕ
-counted updates = min (updates + 1) (2 ^ 64 - 1)
-
 -- the space after a node joined
 abbrev pub with_node : Space → List ℕ → Space
 with_node space node = record space { joined = inserted text_cmp node space.joined }
 
--- the space after its graph was given a triple, which counts as an update even where the triple was there
+-- the space after its graph was given a triple, which counts as an update even where the triple was there; the number
+-- of updates stands still at the greatest u64
 abbrev pub with_triple : Space → Triple → Space
-with_triple space triple = record space { graph = inserted triple_cmp triple space.graph; updates = counted space.updates }
+with_triple space triple = record space { graph = inserted triple_cmp triple space.graph; updates = one_more space.updates }
 
 -- the space after a node had this done: it joined, or the graph has its triple
 abbrev pub after_ask : Space → List ℕ → FirstAsk → Space

@@ -1,10 +1,11 @@
 -- Why a call to the outside failed, and what it did to the bytes there.
-use Rattle.std.specs.Prelude.{◌≡◌, ℕ, ◌+◌, ◌-◌, ◌^◌, ◌≤◌, min, List, ◌++◌, MatchResult, OnErr, Option, Result}
+use Rattle.std.specs.Prelude.{◌≡◌, ℕ, ◌≤◌, List, ◌++◌, MatchResult, OnErr, Option, Result}
 use Rattle.std.specs.Io.KnownBytes.{Appends}
+use Rattle.m3_terms.specs.Counts.{one_more}
 
 -- a count of faults rose, or stands at the greatest u64
 abbrev pub Rose : ℕ → ℕ → Type 0
-Rose before now = min (before + 1) (2 ^ 64 - 1) ≤ now
+Rose before now = one_more before ≤ now
 
 -- a call fails only where the count rose in it, and the count never falls
 pub record HasCause {T E : Type 0} (before now : ℕ) (result : Result T E) : Type 0 where

@@ -1,16 +1,13 @@
 -- Sources and sinks in memory, whose calls fail where a list says so.
-use Rattle.std.specs.Prelude.{◌≡◌, ℕ, ◌+◌, ◌-◌, ◌^◌, ◌≤◌, ◌==◌, min, Bool, true, false, List, ◌++◌, length, drop, Result, Ok, Err}
+use Rattle.std.specs.Prelude.{◌≡◌, ℕ, ◌+◌, ◌≤◌, ◌==◌, min, Bool, true, false, List, ◌++◌, length, drop, Result, Ok, Err}
 use Rattle.std.specs.List.{list_any}
+use Rattle.m3_terms.specs.Counts.{one_more}
 
 -- which calls are to fail, counted from 1; how many were made, and how many failed
 pub record Plan : Type 0 where
   pub failing : List ℕ
   pub calls : ℕ
   pub faults : ℕ
-
--- one more; the number stands still at the greatest u64
-abbrev pub one_more : ℕ → ℕ
-one_more n = min (n + 1) (2 ^ 64 - 1)
 
 -- whether the next call is to fail
 abbrev pub fails_next : Plan → Bool

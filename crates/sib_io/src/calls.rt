@@ -1,5 +1,6 @@
 ghost use Rattle.std.specs.Prelude.{◌≡◌, ◌^◌, ◌<◌, ◌++◌, ◌∷◌, [], length, IsTrue, ◌↔◌, OnOk, OnErr, option_copied, slice_get};
-ghost use Rattle.sib_io.specs.Memory.{Plan as Planned, fails_next, one_more};
+ghost use Rattle.m3_terms.specs.Counts.{one_more};
+ghost use Rattle.sib_io.specs.Memory.{Plan as Planned, fails_next};
 
 use crate::Failed;
 use m3_terms::NoMemory;

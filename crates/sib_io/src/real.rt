@@ -12,7 +12,10 @@ pub struct StdSource<R: Read + Drop> {
 }
 
 impl<R: Read + Drop> StdSource<R> {
-    pub fn new(inner: R) -> StdSource<R> {
+    /// A source over this reader, on which no call has failed.
+    pub fn new(inner: R) -> StdSource<R>
+        ensures { result ≡ record { inner = inner; faults = 0 } }
+    {
         StdSource { inner, faults: 0 }
     }
 }
@@ -39,7 +42,10 @@ pub struct StdSink<W: Write + Drop> {
 }
 
 impl<W: Write + Drop> StdSink<W> {
-    pub fn new(inner: W) -> StdSink<W> {
+    /// A sink over this writer, on which no call has failed.
+    pub fn new(inner: W) -> StdSink<W>
+        ensures { result ≡ record { inner = inner; faults = 0 } }
+    {
         StdSink { inner, faults: 0 }
     }
 }

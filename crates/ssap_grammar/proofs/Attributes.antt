@@ -7,7 +7,8 @@ use Rattle.ssap_grammar.specs.Characters.{Spaces, SomeSpaces, IsQuote, Quoted}
 use Rattle.ssap_grammar.specs.Text.{references}
 use Rattle.ssap_grammar.specs.Attribute.{Equals, ReadsAttribute, ReadsValuePiece, ReadsValueText, ReadsAttvalue, QuotedWord}
 use Rattle.ssap_grammar.specs.Attribute.ReadsValuePiece.{Plain, Reference}
-use Rattle.ssap_grammar.proofs.Fronts.{heads_same, Any, Head, Meet, Leads, Alone, meet_any, meet_map, word_meet, then_meet, then_alone, word_alone, many_meet, many_alone, are_apart, oneof_meet, oneof_alone, ReadsWord, word_map}
+use Rattle.m3_terms.proofs.Lists.{heads_same}
+use Rattle.ssap_grammar.proofs.Fronts.{Any, Head, Meet, Leads, Alone, meet_any, meet_map, word_meet, then_meet, then_alone, word_alone, many_meet, many_alone, are_apart, oneof_meet, oneof_alone, ReadsWord, word_map}
 use Rattle.ssap_grammar.proofs.Characters.{Stops, NoSpace, white_small, high_no_space, spaces_meet, some_spaces_meet, some_are_spaces, some_begin, spaces_alone, some_spaces_alone, char_byte, quote_small, quoted_meet, quoted_alone}
 use Rattle.ssap_grammar.proofs.Texts.{references_meet, reference_head}
 

@@ -6,7 +6,8 @@ use Rattle.std.proofs.lemmas.Str.{encode_same, encode_ascii}
 use Rattle.std.proofs.lemmas.Bool.{both_ways}
 use Rattle.ssap_grammar.specs.Front.{Front, Word, Then}
 use Rattle.ssap_grammar.specs.Characters.{is_white, IsWhite, Spaces, SomeSpaces, IsQuote, Quoted}
-use Rattle.ssap_grammar.proofs.Fronts.{heads_same, tails_same, Any, Head, Meet, Alone, then_alone, word_alone, word_map}
+use Rattle.m3_terms.proofs.Lists.{heads_same, tails_same}
+use Rattle.ssap_grammar.proofs.Fronts.{Any, Head, Meet, Alone, then_alone, word_alone, word_map}
 
 -- white space has small codes
 pub white_small : (byte : ℕ) → IsWhite byte → byte < 33

@@ -5,7 +5,8 @@ use Rattle.std.proofs.lemmas.Bool.{and_parts}
 use Rattle.ssap_grammar.specs.Front.{Front, Nothing, Then, Many, OneOf}
 use Rattle.ssap_grammar.specs.Characters.{Spaces}
 use Rattle.ssap_grammar.specs.Element.{ReadsElement}
-use Rattle.ssap_grammar.proofs.Fronts.{heads_same, tails_same, Any, Meet, Leads, Alone, meet_where, meet_map, nothing_meet, then_meet, then_alone, many_leads, many_meet, many_alone, are_apart, oneof_meet, oneof_alone}
+use Rattle.m3_terms.proofs.Lists.{heads_same, tails_same}
+use Rattle.ssap_grammar.proofs.Fronts.{Any, Meet, Leads, Alone, meet_where, meet_map, nothing_meet, then_meet, then_alone, many_leads, many_meet, many_alone, are_apart, oneof_meet, oneof_alone}
 use Rattle.ssap_grammar.proofs.Characters.{Stops, NoSpace, high_no_space, spaces_meet, spaces_alone}
 use Rattle.ssap_grammar.proofs.Texts.{Closes}
 use Rattle.ssap_grammar.proofs.Attributes.{IsName, TagEnds, IsLettered}

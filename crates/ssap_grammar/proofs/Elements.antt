@@ -8,7 +8,8 @@ use Rattle.ssap_grammar.specs.Front.{Front, Word, Then}
 use Rattle.ssap_grammar.specs.Characters.{IsWhite, Spaces}
 use Rattle.ssap_grammar.specs.Element.{WithBothTags, SelfClosing, ReadsElement}
 use Rattle.ssap_grammar.specs.Element.ReadsElement.{Whole, Empty}
-use Rattle.ssap_grammar.proofs.Fronts.{heads_same, tails_same, Any, Meet, Leads, Alone, meet_map, word_meet, then_meet, then_alone, word_alone, ReadsWord, word_map, more_behind}
+use Rattle.m3_terms.proofs.Lists.{heads_same, tails_same}
+use Rattle.ssap_grammar.proofs.Fronts.{Any, Meet, Leads, Alone, meet_map, word_meet, then_meet, then_alone, word_alone, ReadsWord, word_map, more_behind}
 use Rattle.ssap_grammar.proofs.Characters.{Stops, NoSpace, white_small, high_no_space, spaces_meet, spaces_alone, runs_told}
 use Rattle.ssap_grammar.proofs.Texts.{Closes}
 use Rattle.ssap_grammar.proofs.Attributes.{IsName, TagEnds}

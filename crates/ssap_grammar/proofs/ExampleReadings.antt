@@ -23,7 +23,7 @@ use Rattle.ssap_grammar.specs.Element.ReadsElement.{Whole, Empty}
 use Rattle.ssap_grammar.specs.Triples.{kind_words}
 use Rattle.ssap_grammar.specs.Examples.{EitherQuote, EmptyText, CdataSection, ReferenceInText, SpacesInTags, BlankText, joining, OneMessage}
 use Rattle.ssap_grammar.specs.Characters.{IsWhite}
-use Rattle.ssap_grammar.proofs.Fronts.{heads_same, tails_same}
+use Rattle.m3_terms.proofs.Lists.{heads_same, tails_same}
 use Rattle.ssap_grammar.proofs.Characters.{no_spaces}
 
 -- one thing is read and then another

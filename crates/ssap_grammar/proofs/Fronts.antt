@@ -3,15 +3,8 @@ use Rattle.std.proofs.Common.{◌≡◌, inl, inr, ℕ, Bool, true, false, not, 
 use Rattle.std.specs.Prelude.{Option}
 use Rattle.std.proofs.lemmas.List.{append_cancel_left}
 use Rattle.std.proofs.lemmas.Bool.{or_cases, and_parts, not-true, eqb-false}
+use Rattle.m3_terms.proofs.Lists.{heads_same, tails_same}
 use Rattle.ssap_grammar.specs.Front.{Front, Word, Nothing, Then, Many, Given, Optional, OneOf}
-
--- lists that are equal have equal heads
-pub heads_same : {A : Type 0} (x y : A) (xs ys : List A) → x ∷ xs ≡ y ∷ ys → x ≡ y
-heads_same x y xs ys e = cc
-
--- lists that are equal have equal tails
-pub tails_same : {A : Type 0} (x y : A) (xs ys : List A) → x ∷ xs ≡ y ∷ ys → xs ≡ ys
-tails_same x y xs ys e = cc
 
 -- whatever follows
 abbrev pub Any : List ℕ → Type 0

@@ -13,7 +13,8 @@ use Rattle.ssap_grammar.specs.Element.{ReadsElement}
 use Rattle.ssap_grammar.specs.Head.{message_types, transactions, ReadsMessageType, ReadsTransactionType}
 use Rattle.ssap_grammar.specs.Message.{ReadsUtf8Name, ReadsDeclaration, Item, ReadsItem, Holds, ReadsRoot, ReadsMessage, Spells}
 use Rattle.ssap_grammar.specs.Message.Item.{MessageTypeItem, TransactionTypeItem, TransactionIdItem, NodeIdItem, SpaceIdItem, ParameterItem}
-use Rattle.ssap_grammar.proofs.Fronts.{heads_same, tails_same, Any, Head, Meet, Alone, meet_any, meet_map, word_meet, word_alone, nothing_meet, nothing_alone, then_meet, then_alone, optional_meet, optional_alone, word_map, more_behind}
+use Rattle.m3_terms.proofs.Lists.{heads_same, tails_same}
+use Rattle.ssap_grammar.proofs.Fronts.{Any, Head, Meet, Alone, meet_any, meet_map, word_meet, word_alone, nothing_meet, nothing_alone, then_meet, then_alone, optional_meet, optional_alone, word_map, more_behind}
 use Rattle.ssap_grammar.proofs.Characters.{Stops, NoSpace, high_no_space, spaces_meet, spaces_alone, quoted_meet, quoted_alone, runs_told}
 use Rattle.ssap_grammar.proofs.Texts.{Closes, text_meet, text_alone}
 use Rattle.ssap_grammar.proofs.Attributes.{IsName, TagEnds, IsLettered, attribute_meet, attribute_apart, attribute_alone}

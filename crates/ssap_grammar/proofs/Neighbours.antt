@@ -21,7 +21,8 @@ use Rattle.ssap_grammar.specs.Triples.{kind_words, ReadsType}
 use Rattle.ssap_grammar.specs.Parameter.{name_of, ReadsParameterAttribute, ReadsParameterAttributes}
 use Rattle.ssap_grammar.specs.Parameter.ParameterAttribute.{Name}
 use Rattle.ssap_grammar.specs.Examples.{QuotesAgree, NoSpaceInEnd, NoEmptyWord, NoSmallCdata, NoCapitalReference, NoSpaceBeforeName, OneName, OneNodeId}
-use Rattle.ssap_grammar.proofs.Fronts.{heads_same, tails_same, differ, differs_from_all, differ_apart, differs_none}
+use Rattle.m3_terms.proofs.Lists.{heads_same, tails_same}
+use Rattle.ssap_grammar.proofs.Fronts.{differ, differs_from_all, differ_apart, differs_none}
 use Rattle.ssap_grammar.proofs.Characters.{NoSpace, high_no_space, spaces_meet, some_spaces_meet, no_spaces, some_are_spaces, char_byte}
 use Rattle.ssap_grammar.proofs.Texts.{Closes}
 use Rattle.ssap_grammar.proofs.Attributes.{TagEnds, equals_meet}

@@ -16,7 +16,8 @@ use Rattle.ssap_grammar.specs.Triples.{ReadsTripleList}
 use Rattle.ssap_grammar.specs.Table.{ReadsSparql}
 use Rattle.ssap_grammar.specs.Parameter.{ParameterAttribute, name_of, encoding_of, ReadsParameterAttribute, ReadsParameterAttributes, ReadsBody, ReadsParameter}
 use Rattle.ssap_grammar.specs.Parameter.ParameterAttribute.{Name, Encoding}
-use Rattle.ssap_grammar.proofs.Fronts.{heads_same, Any, Meet, Alone, meet_map, then_alone, many_meet, many_alone, word_map}
+use Rattle.m3_terms.proofs.Lists.{heads_same}
+use Rattle.ssap_grammar.proofs.Fronts.{Any, Meet, Alone, meet_map, then_alone, many_meet, many_alone, word_map}
 use Rattle.ssap_grammar.proofs.Characters.{Stops, NoSpace, white_small, char_byte, spaces_meet, spaces_alone}
 use Rattle.ssap_grammar.proofs.Texts.{Closes, text_meet, text_alone, reference_head, section_is, piece_no_tag}
 use Rattle.ssap_grammar.proofs.Attributes.{IsName, TagEnds, IsLettered, attribute_meet, attribute_apart, attributes_apart, attribute_stops, attribute_alone, attvalue_meet, attvalue_alone}

@@ -8,7 +8,8 @@ use Rattle.ssap_grammar.specs.Characters.{IsWhite}
 use Rattle.ssap_grammar.specs.Message.{ReadsMessage, Spells}
 use Rattle.ssap_grammar.specs.Stream.{Placed, Messages, Stream, IsViable, IsPlace, IsWholeOf, IsWhole, IsInside}
 use Rattle.ssap_grammar.specs.Laws.{IsPart, IsDeadEnd}
-use Rattle.ssap_grammar.proofs.Fronts.{heads_same, tails_same, Head, more_behind}
+use Rattle.m3_terms.proofs.Lists.{heads_same, tails_same}
+use Rattle.ssap_grammar.proofs.Fronts.{Head, more_behind}
 use Rattle.ssap_grammar.proofs.Characters.{NoSpace, high_no_space, spaces_meet, no_spaces}
 use Rattle.ssap_grammar.proofs.Messages.{message_both, message_alone, message_head, none_begins}
 use Rattle.ssap_grammar.proofs.Streams.{GoesOn, messages_no_space, stream_goes_on}

@@ -5,7 +5,8 @@ use Rattle.std.proofs.lemmas.Str.{encode_same}
 use Rattle.ssap_grammar.specs.Front.{Front, Word, Then, OneOf}
 use Rattle.ssap_grammar.specs.Text.{references, ReadsPiece, ReadsText}
 use Rattle.ssap_grammar.specs.Text.ReadsPiece.{Plain, Reference, Cdata}
-use Rattle.ssap_grammar.proofs.Fronts.{heads_same, tails_same, Any, Head, Meet, Alone, word_meet, then_alone, word_alone, many_meet, many_alone, oneof_meet, oneof_head, oneof_alone, ReadsWord, word_map}
+use Rattle.m3_terms.proofs.Lists.{heads_same, tails_same}
+use Rattle.ssap_grammar.proofs.Fronts.{Any, Head, Meet, Alone, word_meet, then_alone, word_alone, many_meet, many_alone, oneof_meet, oneof_head, oneof_alone, ReadsWord, word_map}
 use Rattle.ssap_grammar.proofs.Characters.{char_byte}
 
 -- `</` stands at the front
