@@ -1,206 +1,254 @@
 -- What each step goes on with.
-use Rattle.std.proofs.Common.{take, drop, ◌≡◌, ◌≢◌, inl, inr, ℕ, ◌+◌, ◌-◌, ◌*◌, ◌<◌, ◌≤◌, Bool, true, false, List, [], ◌∷◌, ◌++◌, length, refl, sym, ◌∙◌, ap, subst, append_assoc, arith}
-use Rattle.std.proofs.lemmas.List.{append-nil, drop-drop, length-drop}
+use Rattle.std.proofs.Common.{take, drop, ◌≡◌, ◌≢◌, ◌⊎◌, inl, inr, ℕ, ◌+◌, ◌-◌, ◌*◌, ◌≤◌, ◌^◌, List, [], ◌∷◌, ◌++◌, length, length-append, min, Bool, true, false, refl, sym, ◌∙◌, ap, subst, append_assoc, arith}
+use Rattle.std.proofs.lemmas.List.{append-nil, drop-drop, drop_all, length-drop, length-take-le}
+use Rattle.std.proofs.lemmas.Bool.Decides.{nat_tests}
 use Rattle.std.proofs.Math.Seq.{take-add}
 use Rattle.std.specs.Fmt.{decimal}
-use Rattle.sib_script.specs.Script.{entry_spelling}
+use Rattle.std.specs.Prelude.{Option, None, ◌==◌, if◌then◌else◌}
+use Rattle.sib_script.specs.Script.{entry_spelling, IsLink}
 use Rattle.sib_script.specs.Reading.{IsNoPart}
-use Rattle.std.specs.Prelude.{Option, Some, None, MatchOption}
-use Rattle.sib_script.specs.Steps.{Lengthens, unread_of, Walks, Sticks, Moves, Stops, Halts, Leads}
+use Rattle.sib_script.specs.Steps.{delivery_front, Begins, Lengthens, unread_of, Walks, Sticks, Moves, Stops, Halts, Leads}
 use Rattle.sib_script.specs.declared.entry.TheConstants.{PIECE_LIMIT}
 use Rattle.sib_script.specs.declared.entry.Entry.{Entry}
 use Rattle.sib_script.specs.declared.entry.Entry.TheVariants.{NewLink, Bytes, End}
 use Rattle.sib_script.specs.declared.step.Step.{Step}
-use Rattle.sib_script.specs.declared.step.Step.TheVariants.{Start, Plus, Sign, Link, Space, Count, Inside, Close}
-use Rattle.sib_script.proofs.ScriptLaws.{heads_same, count_end, fronts_same, delivery_is, new_link_is}
-use Rattle.sib_script.proofs.Counts.{IsDigit, count_on, count_first, decimal_on, decimal_one}
+use Rattle.sib_script.specs.declared.step.Step.TheVariants.{Start, Plus, Sign, Link, Space, Count, Inside, Close, Minus, Ended}
+use Rattle.m3_terms.proofs.Lists.{heads_same, tails_same}
+use Rattle.sib_script.proofs.ScriptLaws.{heads_apart, number_end, fronts_same, entry_then, entry_is}
+use Rattle.sib_script.proofs.Counts.{number_on, number_first, decimal_on, decimal_one}
 
--- the whole of a delivery, byte by byte
-abbrev pub delivery_bytes : List ℕ → List ℕ
-delivery_bytes d = 62 ∷ 49 ∷ 32 ∷ (decimal (length d) ++ 10 ∷ (d ++ 10 ∷ []))
+-- the whole of an entry, byte by byte
+pub entry_whole : (e : Entry) → entry_spelling e ≡ entry_then e []
+entry_whole e = sym (append-nil (entry_spelling e)) ∙ entry_is e []
 
-pub delivery_whole : (d : List ℕ) → entry_spelling (Bytes 1 d) ≡ delivery_bytes d
-delivery_whole d = sym (append-nil (entry_spelling (Bytes 1 d))) ∙ delivery_is d []
+-- what follows the space of a delivery, and what follows its first byte
+abbrev count_rest : List ℕ → List ℕ
+count_rest d = decimal (length d) ++ 10 ∷ (d ++ 10 ∷ [])
 
-pub new_link_whole : entry_spelling NewLink ≡ 43 ∷ 10 ∷ []
-new_link_whole = sym (append-nil (entry_spelling NewLink)) ∙ new_link_is []
+abbrev delivery_rest : ℕ → List ℕ → List ℕ
+delivery_rest l d = decimal l ++ 32 ∷ count_rest d
 
--- bytes begin no delivery where they begin none of its texts
-pub no_delivery : (unread : List ℕ) → ((d more : List ℕ) → length d ≤ PIECE_LIMIT → unread ++ more ≡ delivery_bytes d → ⊥) → IsNoPart true unread
-no_delivery unread f (Bytes l d) more m e =
-    let one : l ≡ 1 = m.0 in
-    f d more m.1 (subst (λ (n : ℕ). unread ++ more ≡ entry_spelling (Bytes n d)) one e ∙ delivery_whole d)
-no_delivery unread f NewLink more m e = absurd m
-no_delivery unread f (End l) more m e = absurd m
+-- behind `>` come the bytes of a delivery
+no_delivery : (t : List ℕ) → ((l : ℕ) (d more : List ℕ) → IsLink l → length d ≤ PIECE_LIMIT → t ++ more ≡ delivery_rest l d → ⊥) → IsNoPart (62 ∷ t)
+no_delivery t f NewLink more m e = heads_apart 62 43 (t ++ more) (10 ∷ []) (λ k. omega (arith, k)) (e ∙ entry_whole NewLink)
+no_delivery t f (Bytes l d) more m e =
+    f l d more m.0 m.1 (tails_same 62 62 (t ++ more) (delivery_rest l d) (e ∙ entry_whole (Bytes l d)))
+no_delivery t f (End l) more m e = heads_apart 62 45 (t ++ more) (decimal l ++ 10 ∷ []) (λ k. omega (arith, k)) (e ∙ entry_whole (End l))
 
--- nor the opening of the link
-pub no_opening : (unread : List ℕ) → ((more : List ℕ) → unread ++ more ≡ 43 ∷ 10 ∷ [] → ⊥) → IsNoPart false unread
-no_opening unread f entry more m e =
-    f more (subst (λ (g : Entry). unread ++ more ≡ entry_spelling g) m e ∙ new_link_whole)
+-- behind `-` come those of an end
+no_end : (t : List ℕ) → ((l : ℕ) (more : List ℕ) → IsLink l → t ++ more ≡ decimal l ++ 10 ∷ [] → ⊥) → IsNoPart (45 ∷ t)
+no_end t f NewLink more m e = heads_apart 45 43 (t ++ more) (10 ∷ []) (λ k. omega (arith, k)) (e ∙ entry_whole NewLink)
+no_end t f (Bytes l d) more m e = heads_apart 45 62 (t ++ more) (delivery_rest l d) (λ k. omega (arith, k)) (e ∙ entry_whole (Bytes l d))
+no_end t f (End l) more m e =
+    f l more m (tails_same 45 45 (t ++ more) (decimal l ++ 10 ∷ []) (e ∙ entry_whole (End l)))
 
-pub no_part_open : (opened : Bool) (unread : List ℕ) → opened ≡ true → ((d more : List ℕ) → length d ≤ PIECE_LIMIT → unread ++ more ≡ delivery_bytes d → ⊥) → IsNoPart opened unread
-no_part_open true unread o f = no_delivery unread f
-no_part_open false unread o f = absurd (cc)
+-- behind `+` comes a line end
+no_opening : (t : List ℕ) → ((more : List ℕ) → t ++ more ≡ 10 ∷ [] → ⊥) → IsNoPart (43 ∷ t)
+no_opening t f NewLink more m e = f more (tails_same 43 43 (t ++ more) (10 ∷ []) (e ∙ entry_whole NewLink))
+no_opening t f (Bytes l d) more m e = heads_apart 43 62 (t ++ more) (delivery_rest l d) (λ k. omega (arith, k)) (e ∙ entry_whole (Bytes l d))
+no_opening t f (End l) more m e = heads_apart 43 45 (t ++ more) (decimal l ++ 10 ∷ []) (λ k. omega (arith, k)) (e ∙ entry_whole (End l))
 
-pub no_part_closed : (opened : Bool) (unread : List ℕ) → opened ≡ false → ((more : List ℕ) → unread ++ more ≡ 43 ∷ 10 ∷ [] → ⊥) → IsNoPart opened unread
-no_part_closed true unread o f = absurd (cc)
-no_part_closed false unread o f = no_opening unread f
+-- an entry begins with `+`, `>` or `-`
+pub stick_start : (byte : ℕ) → byte ≢ 43 → byte ≢ 62 → byte ≢ 45 → Sticks Start byte
+stick_start byte p s m piece h NewLink more a e = heads_apart byte 43 more (10 ∷ []) p (e ∙ entry_whole NewLink)
+stick_start byte p s m piece h (Bytes l d) more a e = heads_apart byte 62 more (delivery_rest l d) s (e ∙ entry_whole (Bytes l d))
+stick_start byte p s m piece h (End l) more a e = heads_apart byte 45 more (decimal l ++ 10 ∷ []) m (e ∙ entry_whole (End l))
 
--- the second, third and fourth bytes of equal lists
-second_same : (a x y : ℕ) (xs ys : List ℕ) → a ∷ x ∷ xs ≡ a ∷ y ∷ ys → x ≡ y
-second_same a x y xs ys e = cc
+pub stick_plus : (byte : ℕ) → byte ≢ 10 → Sticks Plus byte
+stick_plus byte n piece h = no_opening (byte ∷ []) (λ more e. n (heads_same byte 10 more [] e))
 
-third_same : (a b x y : ℕ) (xs ys : List ℕ) → a ∷ b ∷ x ∷ xs ≡ a ∷ b ∷ y ∷ ys → x ≡ y
-third_same a b x y xs ys e = cc
+-- behind `>` and `-` comes a digit that is not `0`
+pub stick_sign : (byte : ℕ) → (Begins byte 1 → ⊥) → Sticks Sign byte
+stick_sign byte n piece h =
+    no_delivery (byte ∷ []) (λ l d more k p e. let small = k.1 in n (number_first 32 l byte 1 more (count_rest d) k.0 (omega arith) (omega (arith, small)) e))
 
-rest_same : (a b c : ℕ) (xs ys : List ℕ) → a ∷ b ∷ c ∷ xs ≡ a ∷ b ∷ c ∷ ys → xs ≡ ys
-rest_same a b c xs ys e = cc
+pub stick_minus : (byte : ℕ) → (Begins byte 1 → ⊥) → Sticks Minus byte
+stick_minus byte n piece h =
+    no_end (byte ∷ []) (λ l more k e. let small = k.1 in n (number_first 10 l byte 1 more [] k.0 (omega arith) (omega (arith, small)) e))
 
--- at the start an open link goes on with `>` alone
-pub stick_start_open : (opened : Bool) (byte : ℕ) → opened ≡ true → byte ≢ 62 → Sticks opened Start byte
-stick_start_open opened byte o n piece h =
-    no_part_open opened (byte ∷ []) o (λ d more p e. n (heads_same byte 62 more (49 ∷ 32 ∷ (decimal (length d) ++ 10 ∷ (d ++ 10 ∷ []))) e))
+-- a link's number goes on with a digit, unless it would be too great, and ends with a space or a line end
+pub stick_link : (link byte : ℕ) → byte ≢ 32 → (Lengthens link byte (2 ^ 32 - 1) → ⊥) → Sticks (Link link) byte
+stick_link link byte n k piece h =
+    let small = h.1.1 in
+    no_delivery (decimal link ++ byte ∷ []) (λ l d more j p e.
+    let other = j.1 in
+    k (number_on 32 link l byte (2 ^ 32 - 1) more (count_rest d) (omega arith) (omega (arith, small)) (omega (arith, other)) (omega arith) n (sym (append_assoc (decimal link) (byte ∷ []) more) ∙ e)))
 
--- and one that is not open with `+` alone
-pub stick_start_closed : (opened : Bool) (byte : ℕ) → opened ≡ false → byte ≢ 43 → Sticks opened Start byte
-stick_start_closed opened byte o n piece h =
-    no_part_closed opened (byte ∷ []) o (λ more e. n (heads_same byte 43 more (10 ∷ []) e))
+pub stick_ended : (link byte : ℕ) → byte ≢ 10 → (Lengthens link byte (2 ^ 32 - 1) → ⊥) → Sticks (Ended link) byte
+stick_ended link byte n k piece h =
+    let small = h.1.1 in
+    no_end (decimal link ++ byte ∷ []) (λ l more j e.
+    let other = j.1 in
+    k (number_on 10 link l byte (2 ^ 32 - 1) more [] (omega arith) (omega (arith, small)) (omega (arith, other)) (omega arith) n (sym (append_assoc (decimal link) (byte ∷ []) more) ∙ e)))
 
-pub stick_plus : (opened : Bool) (byte : ℕ) → byte ≢ 10 → Sticks opened Plus byte
-stick_plus opened byte n piece h =
-    no_part_closed opened (43 ∷ byte ∷ []) h.0 (λ more e. n (second_same 43 byte 10 more [] e))
+-- behind a link's number and the space come the rest of a delivery on that link
+no_rest : (link : ℕ) (t : List ℕ) → IsLink link → ((d more : List ℕ) → length d ≤ PIECE_LIMIT → t ++ more ≡ count_rest d → ⊥) → IsNoPart (delivery_front link t)
+no_rest link t k f =
+    let small = k.1 in
+    no_delivery (decimal link ++ 32 ∷ t) (λ l d more j p e.
+    let other = j.1 in
+    let text : decimal link ++ 32 ∷ (t ++ more) ≡ delivery_rest l d = sym (append_assoc (decimal link) (32 ∷ t) more) ∙ e in
+    f d more p (number_end 32 link l (t ++ more) (count_rest d) (omega arith) (omega (arith, small)) (omega (arith, other)) text).1)
 
-pub stick_sign : (opened : Bool) (byte : ℕ) → byte ≢ 49 → Sticks opened Sign byte
-stick_sign opened byte n piece h =
-    no_part_open opened (62 ∷ byte ∷ []) h.0 (λ d more p e. n (second_same 62 byte 49 more (32 ∷ (decimal (length d) ++ 10 ∷ (d ++ 10 ∷ []))) e))
+-- the same, with one byte more
+no_rest_on : (link byte : ℕ) (t : List ℕ) → IsLink link → ((d more : List ℕ) → length d ≤ PIECE_LIMIT → t ++ byte ∷ more ≡ count_rest d → ⊥) → IsNoPart (delivery_front link t ++ byte ∷ [])
+no_rest_on link byte t k f =
+    subst (λ (l : List ℕ). IsNoPart (62 ∷ l)) (sym (append_assoc (decimal link) (32 ∷ t) (byte ∷ [])))
+    (no_rest link (t ++ byte ∷ []) k (λ d more p e. f d more p (sym (append_assoc t (byte ∷ []) more) ∙ e)))
 
-pub stick_link : (opened : Bool) (byte : ℕ) → byte ≢ 32 → Sticks opened Link byte
-stick_link opened byte n piece h =
-    no_part_open opened (62 ∷ 49 ∷ byte ∷ []) h.0 (λ d more p e. n (third_same 62 49 byte 32 more (decimal (length d) ++ 10 ∷ (d ++ 10 ∷ [])) e))
-
--- after the space comes a digit
-pub stick_space : (opened : Bool) (byte : ℕ) → (IsDigit byte → ⊥) → Sticks opened Space byte
-stick_space opened byte n piece h =
-    no_part_open opened (62 ∷ 49 ∷ 32 ∷ byte ∷ []) h.0 (λ d more p e. n (count_first (length d) byte more (d ++ 10 ∷ []) (omega arith) (rest_same 62 49 32 (byte ∷ more) (decimal (length d) ++ 10 ∷ (d ++ 10 ∷ [])) e)))
+-- behind the space comes a digit
+pub stick_space : (link byte : ℕ) → (Begins byte 0 → ⊥) → Sticks (Space link) byte
+stick_space link byte n piece h =
+    no_rest_on link byte [] h.1 (λ d more p e. n (number_first 10 (length d) byte 0 more (d ++ 10 ∷ []) (omega arith) (omega arith) (omega arith) e))
 
 -- a count goes on with a digit, unless it is 0 or would be too great
-pub stick_count : (opened : Bool) (value byte : ℕ) → byte ≢ 10 → (0 < value → IsDigit byte → value * 10 + (byte - 48) ≤ PIECE_LIMIT → ⊥) → Sticks opened (Count value) byte
-stick_count opened value byte n k piece h =
-    let small = h.2 in
-    no_part_open opened (62 ∷ 49 ∷ 32 ∷ (decimal value ++ byte ∷ [])) h.0 (λ d more p e.
-    let text : decimal value ++ byte ∷ more ≡ decimal (length d) ++ 10 ∷ (d ++ 10 ∷ []) =
-    sym (append_assoc (decimal value) (byte ∷ []) more) ∙ rest_same 62 49 32 ((decimal value ++ byte ∷ []) ++ more) (decimal (length d) ++ 10 ∷ (d ++ 10 ∷ [])) e
-    in
-    let on = count_on value (length d) byte more (d ++ 10 ∷ []) (omega arith) (omega arith) n text in
-    let within = on.within in
-    k on.filled on.digit (omega arith))
+pub stick_count : (link count byte : ℕ) → byte ≢ 10 → (Lengthens count byte PIECE_LIMIT → ⊥) → Sticks (Count link count) byte
+stick_count link count byte n k piece h =
+    no_rest_on link byte (decimal count) h.1 (λ d more p e. k (number_on 10 count (length d) byte PIECE_LIMIT more (d ++ 10 ∷ []) (omega arith) h.2 p (omega arith) n e))
 
 -- behind the bytes of a delivery comes a line end
-pub stick_close : (opened : Bool) (byte : ℕ) → byte ≢ 10 → Sticks opened Close byte
-stick_close opened byte n piece h =
+pub stick_close : (link byte : ℕ) → byte ≢ 10 → Sticks (Close link) byte
+stick_close link byte n piece h =
     let small = h.1 in
-    no_part_open opened (62 ∷ 49 ∷ 32 ∷ (decimal (length piece) ++ 10 ∷ piece ++ byte ∷ [])) h.0 (λ d more p e.
-    let text : decimal (length piece) ++ 10 ∷ (piece ++ byte ∷ more) ≡ decimal (length d) ++ 10 ∷ (d ++ 10 ∷ []) =
-    sym (simp append_assoc) ∙ rest_same 62 49 32 ((decimal (length piece) ++ 10 ∷ piece ++ byte ∷ []) ++ more) (decimal (length d) ++ 10 ∷ (d ++ 10 ∷ [])) e
-    in
-    let ends = count_end (length piece) (length d) (piece ++ byte ∷ more) (d ++ 10 ∷ []) (omega arith) (omega arith) text in
+    no_rest_on link byte (decimal (length piece) ++ 10 ∷ piece) h.0 (λ d more p e.
+    let text : decimal (length piece) ++ 10 ∷ (piece ++ byte ∷ more) ≡ count_rest d = sym (append_assoc (decimal (length piece)) (10 ∷ piece) (byte ∷ more)) ∙ e in
+    let ends = number_end 10 (length piece) (length d) (piece ++ byte ∷ more) (d ++ 10 ∷ []) (omega arith) (omega arith) (omega arith) text in
     let tails = fronts_same piece d (byte ∷ more) (10 ∷ []) ends.0 ends.1 in
     n (heads_same byte 10 more [] tails.1))
 
--- the first byte of an entry leads on
-pub walk_start_open : (opened : Bool) (byte : ℕ) → opened ≡ true → byte ≡ 62 → Walks opened Start (byte ∷ []) Sign
-walk_start_open opened byte o e piece h = ((o, h), ap (λ b. b ∷ []) (sym e))
-
-pub walk_start_closed : (opened : Bool) (byte : ℕ) → opened ≡ false → byte ≡ 43 → Walks opened Start (byte ∷ []) Plus
-walk_start_closed opened byte o e piece h = ((o, h), ap (λ b. b ∷ []) (sym e))
-
-pub walk_sign : (opened : Bool) (byte : ℕ) → byte ≡ 49 → Walks opened Sign (byte ∷ []) Link
-walk_sign opened byte e piece h = (h, ap (λ b. 62 ∷ b ∷ []) (sym e))
-
-pub walk_link : (opened : Bool) (byte : ℕ) → byte ≡ 32 → Walks opened Link (byte ∷ []) Space
-walk_link opened byte e piece h = (h, ap (λ b. 62 ∷ 49 ∷ b ∷ []) (sym e))
-
-pub walk_space : (opened : Bool) (byte : ℕ) → IsDigit byte → Walks opened Space (byte ∷ []) (Count (byte - 48))
-walk_space opened byte d piece h =
+-- the first digit of a number
+pub walk_sign : (byte : ℕ) → Begins byte 1 → Walks Sign (byte ∷ []) (Link (byte - 48))
+walk_sign byte d piece h =
+    let low = d.low in
     let high = d.high in
-    ((h.0, h.1, omega arith), ap (λ l. 62 ∷ 49 ∷ 32 ∷ l) (decimal_one byte d))
+    ((h, (omega arith, omega arith)), ap (λ l. 62 ∷ l) (decimal_one byte 1 d))
 
-pub walk_count : (opened : Bool) (value byte : ℕ) → 0 < value → IsDigit byte → value * 10 + (byte - 48) ≤ PIECE_LIMIT → Walks opened (Count value) (byte ∷ []) (Count (value * 10 + (byte - 48)))
-walk_count opened value byte p d k piece h =
-    ((h.0, h.1, k), ap (λ l. 62 ∷ 49 ∷ 32 ∷ l) (decimal_on value byte p (omega arith) d))
+pub walk_minus : (byte : ℕ) → Begins byte 1 → Walks Minus (byte ∷ []) (Ended (byte - 48))
+walk_minus byte d piece h =
+    let low = d.low in
+    let high = d.high in
+    ((h, (omega arith, omega arith)), ap (λ l. 45 ∷ l) (decimal_one byte 1 d))
 
--- the line end behind a count leads to the bytes, or to the last line end where there are none
-pub walk_count_none : (opened : Bool) (value : ℕ) → value ≡ 0 → Walks opened (Count value) (10 ∷ []) Close
-walk_count_none opened value z piece h =
-    let empty : piece ≡ [] = h.1 in
-    let none : length piece ≡ 0 = ap length empty in
-    let same : length piece ≡ value = omega arith in
-    ((h.0, omega arith), ap (λ n. 62 ∷ 49 ∷ 32 ∷ (decimal n ++ 10 ∷ piece)) same ∙ ap (λ l. 62 ∷ 49 ∷ 32 ∷ (decimal value ++ 10 ∷ l)) empty)
+-- behind the front of a delivery the same bytes follow
+pub front_on : (link : ℕ) (s t more : List ℕ) → s ≡ t ++ more → delivery_front link s ≡ delivery_front link t ++ more
+front_on link s t more e =
+    ap (λ l. delivery_front link l) e ∙ ap (λ l. 62 ∷ l) (sym (append_assoc (decimal link) (32 ∷ t) more))
 
-pub walk_count_some : (opened : Bool) (value : ℕ) → 0 < value → Walks opened (Count value) (10 ∷ []) (Inside value)
-walk_count_some opened value p piece h =
-    let empty : piece ≡ [] = h.1 in
-    let small = h.2 in
-    let none : length piece ≡ 0 = ap length empty in
-    let same : length piece + value ≡ value = omega arith in
-    ((h.0, p, omega arith), ap (λ n. 62 ∷ 49 ∷ 32 ∷ (decimal n ++ 10 ∷ piece)) same ∙ ap (λ l. 62 ∷ 49 ∷ 32 ∷ (decimal value ++ 10 ∷ l)) empty)
+pub walk_space : (link byte : ℕ) → Begins byte 0 → Walks (Space link) (byte ∷ []) (Count link (byte - 48))
+walk_space link byte d piece h =
+    let high = d.high in
+    ((h.0, h.1, omega arith), front_on link (decimal (byte - 48)) [] (byte ∷ []) (decimal_one byte 0 d))
 
--- one wanted byte leads on, and no other
-pub moves_pass : (opened : Bool) (step : Step) (byte wanted : ℕ) (next : Step) (r : Option Step) → (byte ≢ wanted → Sticks opened step byte) → (byte ≡ wanted → Walks opened step (byte ∷ []) next) → MatchOption r (byte ≢ wanted) (λ s. (s ≡ next) × (byte ≡ wanted)) → Moves opened step byte r
-moves_pass opened step byte wanted next None f g h = λ _. f h
-moves_pass opened step byte wanted next (Some s) f g h =
-    subst (λ (t : Step). Walks opened step (byte ∷ []) t) (sym h.0) (g h.1)
+-- one digit more
+longer_link : (link byte : ℕ) → Lengthens link byte (2 ^ 32 - 1) → IsLink (link * 10 + (byte - 48))
+longer_link link byte d =
+    let filled = d.filled in
+    let within = d.within in
+    (omega arith, omega arith)
+
+pub walk_link : (link byte : ℕ) → Lengthens link byte (2 ^ 32 - 1) → Walks (Link link) (byte ∷ []) (Link (link * 10 + (byte - 48)))
+walk_link link byte d piece h =
+    ((h.0, longer_link link byte d), ap (λ l. 62 ∷ l) (decimal_on link byte (2 ^ 32 - 1) (omega arith) d))
+
+pub walk_ended : (link byte : ℕ) → Lengthens link byte (2 ^ 32 - 1) → Walks (Ended link) (byte ∷ []) (Ended (link * 10 + (byte - 48)))
+walk_ended link byte d piece h =
+    ((h.0, longer_link link byte d), ap (λ l. 45 ∷ l) (decimal_on link byte (2 ^ 32 - 1) (omega arith) d))
+
+pub walk_count : (link count byte : ℕ) → Lengthens count byte PIECE_LIMIT → Walks (Count link count) (byte ∷ []) (Count link (count * 10 + (byte - 48)))
+walk_count link count byte d piece h =
+    ((h.0, h.1, d.within), front_on link (decimal (count * 10 + (byte - 48))) (decimal count) (byte ∷ []) (decimal_on count byte PIECE_LIMIT (omega arith) d))
 
 -- where no byte of the header leads on
-pub moves_none : (opened : Bool) (step : Step) (byte : ℕ) (r : Option Step) → r ≡ None → Sticks opened step byte → Moves opened step byte r
-moves_none opened step byte r e h = subst (λ (s : Option Step). Moves opened step byte s) (sym e) (λ _. h)
+pub moves_none : (step : Step) (byte : ℕ) (r : Option Step) → r ≡ None → Stops step (byte ∷ []) → Moves step byte r
+moves_none step byte r e h = subst (λ (s : Option Step). Moves step byte s) (sym e) h
 
 -- a step that is known moves as that one
-pub moves_at : (opened : Bool) (step known : Step) (byte : ℕ) (r : Option Step) → step ≡ known → Moves opened known byte r → Moves opened step byte r
-moves_at opened step known byte r e h = subst (λ (s : Step). Moves opened s byte r) (sym e) h
+pub moves_at : (step known : Step) (byte : ℕ) (r : Option Step) → step ≡ known → Moves known byte r → Moves step byte r
+moves_at step known byte r e h = subst (λ (s : Step). Moves s byte r) (sym e) h
+
+-- the three steps at which no byte of a header is due: a line end is, or a delivery's own byte
+pub stops_last : (step : Step) (byte : ℕ) → (step ≡ Plus) ⊎ (((link left : ℕ) × (step ≡ Inside link left)) ⊎ ((link : ℕ) × (step ≡ Close link))) → Stops step (byte ∷ [])
+stops_last step byte (inl e) =
+    subst (λ (s : Step). Stops s (byte ∷ [])) (sym e) (λ t n. stick_plus byte (λ z. n (tt, z)))
+stops_last step byte (inr (inl k)) = subst (λ (s : Step). Stops s (byte ∷ [])) (sym k.2) (λ t. absurd t)
+stops_last step byte (inr (inr k)) =
+    subst (λ (s : Step). Stops s (byte ∷ [])) (sym k.1) (λ t n. stick_close k.0 byte (λ z. n (tt, z)))
 
 -- where no byte of a piece is due nothing is taken
-pub halts_there : (opened : Bool) (step : Step) (bytes : List ℕ) → ((left : ℕ) → step ≡ Inside left → ⊥) → Stops opened step bytes → Halts opened step bytes
-halts_there opened step [] n h = tt
-halts_there opened Start (b ∷ bytes) n h = inr (h tt)
-halts_there opened Plus (b ∷ bytes) n h = inl tt
-halts_there opened Sign (b ∷ bytes) n h = inr (h tt)
-halts_there opened Link (b ∷ bytes) n h = inr (h tt)
-halts_there opened Space (b ∷ bytes) n h = inr (h tt)
-halts_there opened (Count value) (b ∷ bytes) n h = inr (h tt)
-halts_there opened (Inside left) (b ∷ bytes) n h = absurd (n left refl)
-halts_there opened Close (b ∷ bytes) n h = inl tt
+halts_there : (step : Step) (bytes : List ℕ) → ((link left : ℕ) → step ≡ Inside link left → ⊥) → Stops step bytes → Halts step bytes
+halts_there Start bytes n h = h tt
+halts_there Plus bytes n h = h tt
+halts_there Sign bytes n h = h tt
+halts_there (Link link) bytes n h = h tt
+halts_there (Space link) bytes n h = h tt
+halts_there (Count link count) bytes n h = h tt
+halts_there (Inside link left) bytes n h = absurd (n link left refl)
+halts_there (Close link) bytes n h = h tt
+halts_there Minus bytes n h = h tt
+halts_there (Ended link) bytes n h = h tt
 
-pub leads_nowhere : (opened : Bool) (step : Step) (piece bytes : List ℕ) → ((left : ℕ) → step ≡ Inside left → ⊥) → Stops opened step bytes → Leads opened step piece bytes 0 step piece
-leads_nowhere opened step piece bytes n h = record {
+pub leads_nowhere : (step : Step) (piece bytes : List ℕ) → ((link left : ℕ) → step ≡ Inside link left → ⊥) → Stops step bytes → Leads step piece bytes 0 step piece
+leads_nowhere step piece bytes n h = record {
   within = omega arith;
   allowed = λ a. a;
   grows = λ a. sym (append-nil (unread_of step piece));
-  halts = halts_there opened step bytes n h;
+  halts = halts_there step bytes n h;
 }
 
 -- bytes that are walked over, and then others
-pub leads_on : (opened : Bool) (start mid last : Step) (piece new bytes : List ℕ) (n count : ℕ) → n ≤ length bytes → Walks opened start (take n bytes) mid → Leads opened mid piece (drop n bytes) count last new → Leads opened start piece bytes (n + count) last new
-leads_on opened start mid last piece new bytes n count w k h =
+pub leads_on : (start mid last : Step) (piece new bytes : List ℕ) (n count : ℕ) → n ≤ length bytes → Walks start (take n bytes) mid → Leads mid piece (drop n bytes) count last new → Leads start piece bytes (n + count) last new
+leads_on start mid last piece new bytes n count w k h =
     let within = h.within in
     record {
       within = omega (arith, length-drop n bytes);
       allowed = λ a. h.allowed (k piece a).0;
       grows = λ a. h.grows (k piece a).0 ∙ (ap (λ l. l ++ take count (drop n bytes)) (k piece a).1 ∙ (append_assoc (unread_of start piece) (take n bytes) (take count (drop n bytes)) ∙ ap (λ l. unread_of start piece ++ l) (sym (take-add n count bytes))));
-      halts = subst (Halts opened last) (drop-drop count n bytes) h.halts;
+      halts = subst (Halts last) (drop-drop count n bytes) h.halts;
     }
 
 -- the same, where the rest is written in another way
-pub leads_through : (opened : Bool) (start mid last : Step) (piece new bytes rest : List ℕ) (n count : ℕ) → n ≤ length bytes → rest ≡ drop n bytes → Walks opened start (take n bytes) mid → Stops opened mid (drop n bytes) → (Stops opened mid rest → Leads opened mid piece rest count last new) → Leads opened start piece bytes (n + count) last new
-leads_through opened start mid last piece new bytes rest n count w e k s h =
-    leads_on opened start mid last piece new bytes n count w k (subst (λ (l : List ℕ). Leads opened mid piece l count last new) e (h (subst (Stops opened mid) (sym e) s)))
+pub leads_through : (start mid last : Step) (piece new bytes rest : List ℕ) (n count : ℕ) → n ≤ length bytes → rest ≡ drop n bytes → Walks start (take n bytes) mid → Stops mid (drop n bytes) → (Stops mid rest → Leads mid piece rest count last new) → Leads start piece bytes (n + count) last new
+leads_through start mid last piece new bytes rest n count w e k s h =
+    leads_on start mid last piece new bytes n count w k (subst (λ (l : List ℕ). Leads mid piece l count last new) e (h (subst (Stops mid) (sym e) s)))
 
--- where the count may not go on
-pub stick_longer : (opened : Bool) (value byte : ℕ) → byte ≢ 10 → (Lengthens value byte → ⊥) → Sticks opened (Count value) byte
-stick_longer opened value byte n k =
-    stick_count opened value byte n (λ p d w. k (record { filled = p; low = d.low; high = d.high; within = w }))
+-- where a line end closes a delivery no other byte may come
+close_halts : (link : ℕ) (bytes : List ℕ) → Halts (Close link) bytes
+close_halts link [] = tt
+close_halts link (byte ∷ bytes) = λ n. stick_close link byte (λ z. n (tt, z))
 
--- and where it may
-pub walk_longer : (opened : Bool) (value byte longer : ℕ) → Lengthens value byte → longer ≡ value * 10 + (byte - 48) → Walks opened (Count value) (byte ∷ []) (Count longer)
-walk_longer opened value byte longer h e =
-    subst (λ (n : ℕ). Walks opened (Count value) (byte ∷ []) (Count n)) (sym e) (walk_count opened value byte h.filled (record { low = h.low; high = h.high }) h.within)
+-- the bytes of a delivery before and after it takes some
+piece_on : (link whole : ℕ) (piece new more : List ℕ) → new ≡ piece ++ more → delivery_front link (decimal whole ++ 10 ∷ new) ≡ delivery_front link (decimal whole ++ 10 ∷ piece) ++ more
+piece_on link whole piece new more e =
+    front_on link (decimal whole ++ 10 ∷ new) (decimal whole ++ 10 ∷ piece) more (ap (λ l. decimal whole ++ 10 ∷ l) e ∙ sym (append_assoc (decimal whole) (10 ∷ piece) more))
+
+-- as many bytes of a delivery are taken as are there or are due
+pub leads_filled : (step next : Step) (link left count : ℕ) (piece new bytes : List ℕ) → step ≡ Inside link left → count ≡ min left (length bytes) → new ≡ piece ++ take count bytes → next ≡ (if left - count == 0 then Close link else Inside link (left - count)) → Leads step piece bytes count next new
+leads_filled step next link left count piece new bytes s c n e =
+    subst (λ (t : Step). Leads t piece bytes count next new) (sym s) (by_test (left - count == 0) refl e)
+  where
+    within : count ≤ length bytes
+    within = omega (arith, c)
+
+    size : length new ≡ length piece + count
+    size = ap length n ∙ (length-append piece (take count bytes) ∙ ap (λ k. length piece + k) (length-take-le count bytes within))
+
+    by_test : (b : Bool) → (left - count == 0) ≡ b → next ≡ (if b then Close link else Inside link (left - count)) → Leads (Inside link left) piece bytes count next new
+    by_test true t e =
+        let all : left - count ≡ 0 = grind (arith, nat_tests) in
+        let whole : length new ≡ length piece + left = omega (arith, c, size, all) in
+        subst (λ (s : Step). Leads (Inside link left) piece bytes count s new) (sym e) (record {
+          within = within;
+          allowed = λ a. let small = a.2 in (a.0, omega (arith, whole, small));
+          grows = λ a. ap (λ k. delivery_front link (decimal k ++ 10 ∷ new)) whole ∙ piece_on link (length piece + left) piece new (take count bytes) n;
+          halts = close_halts link (drop count bytes);
+        })
+    by_test false t e =
+        let some : left - count ≢ 0 = grind (arith, nat_tests) in
+        let whole : length new + (left - count) ≡ length piece + left = omega (arith, c, size) in
+        let none : drop count bytes ≡ [] = drop_all count bytes (omega (arith, c, some)) in
+        subst (λ (s : Step). Leads (Inside link left) piece bytes count s new) (sym e) (record {
+          within = within;
+          allowed = λ a. let small = a.2 in (a.0, omega (arith, some), omega (arith, whole, small));
+          grows = λ a. ap (λ k. delivery_front link (decimal k ++ 10 ∷ new)) whole ∙ piece_on link (length piece + left) piece new (take count bytes) n;
+          halts = subst (Halts (Inside link (left - count))) (sym none) tt;
+        })

@@ -1,12 +1,12 @@
 -- What holds of the format of a script.
-use Rattle.std.specs.Prelude.{◌≡◌, ◌⊎◌, ℕ, ◌<◌, Bool, true, false, List, [], ◌∷◌, ◌++◌, length}
-use Rattle.sib_script.specs.Script.{entry_spelling, script_spelling, MayCome, AreEntries, opened_by, IsScript, BeginsScript, Splits}
+use Rattle.std.specs.Prelude.{◌≡◌, ◌⊎◌, ℕ, ◌<◌, List, [], ◌∷◌, ◌++◌, length}
+use Rattle.sib_script.specs.Script.{entry_spelling, script_spelling, IsEntry, AreEntries, IsScript, BeginsScript, Splits}
 use Rattle.sib_script.specs.Reading.{IsPart, IsNoPart}
 use Rattle.sib_script.specs.declared.entry.Entry.{Entry}
 
--- bytes begin with at most one entry that may come, so no such entry's spelling begins another's
+-- bytes begin with at most one entry, so no entry's spelling begins another's
 abbrev pub EntriesAreTold : Type 0
-EntriesAreTold = (opened : Bool) (entry other : Entry) (rest left : List ℕ) → MayCome opened entry → MayCome opened other
+EntriesAreTold = (entry other : Entry) (rest left : List ℕ) → IsEntry entry → IsEntry other
     → entry_spelling entry ++ rest ≡ entry_spelling other ++ left → (entry ≡ other) × (rest ≡ left)
 
 -- bytes are split into whole entries and a rest in one way
@@ -28,23 +28,22 @@ abbrev pub RestIsNoScript : Type 0
 RestIsNoScript = (bytes : List ℕ) (entries : List Entry) (rest : List ℕ) → Splits bytes entries rest → 0 < length rest
     → (others : List Entry) → ¬ IsScript bytes others
 
--- entries and then nothing or a part of one that may come next are so split, and some script begins with them
+-- entries and then nothing or a part of one are so split, and some script begins with them
 abbrev pub PartsSplit : Type 0
-PartsSplit = (bytes : List ℕ) (entries : List Entry) (unread : List ℕ) → AreEntries false entries
-    → bytes ≡ script_spelling entries ++ unread → (IsPart (opened_by entries) unread ⊎ (unread ≡ []))
+PartsSplit = (bytes : List ℕ) (entries : List Entry) (unread : List ℕ) → AreEntries entries
+    → bytes ≡ script_spelling entries ++ unread → (IsPart unread ⊎ (unread ≡ []))
     → Splits bytes entries unread × BeginsScript bytes
 
 -- where a byte follows that no entry goes on with, no script begins so, and no entry is added, whatever follows
 abbrev pub DeadEnds : Type 0
-DeadEnds = (bytes : List ℕ) (entries : List Entry) (unread : List ℕ) (byte : ℕ) (more : List ℕ) → AreEntries false entries
-    → bytes ≡ script_spelling entries ++ unread → (IsPart (opened_by entries) unread ⊎ (unread ≡ []))
-    → IsNoPart (opened_by entries) (unread ++ byte ∷ [])
+DeadEnds = (bytes : List ℕ) (entries : List Entry) (unread : List ℕ) (byte : ℕ) (more : List ℕ) → AreEntries entries
+    → bytes ≡ script_spelling entries ++ unread → (IsPart unread ⊎ (unread ≡ []))
+    → IsNoPart (unread ++ byte ∷ [])
     → ¬ (BeginsScript (bytes ++ byte ∷ more)) × Splits (bytes ++ byte ∷ more) entries (unread ++ byte ∷ more)
 
--- an entry may be put after others exactly where it may come next, and opens the link
+-- an entry may be put after any others, and its spelling comes after theirs
 abbrev pub EntriesGrow : Type 0
 EntriesGrow = (entries : List Entry) (entry : Entry)
-    → (AreEntries false (entries ++ entry ∷ []) → AreEntries false entries × MayCome (opened_by entries) entry)
-    × (AreEntries false entries → MayCome (opened_by entries) entry → AreEntries false (entries ++ entry ∷ []))
+    → (AreEntries (entries ++ entry ∷ []) → AreEntries entries × IsEntry entry)
+    × (AreEntries entries → IsEntry entry → AreEntries (entries ++ entry ∷ []))
     × (script_spelling (entries ++ entry ∷ []) ≡ script_spelling entries ++ entry_spelling entry)
-    × (opened_by (entries ++ entry ∷ []) ≡ true)

@@ -1,14 +1,13 @@
 -- What a reader of scripts stands for, and what a call of it does.
 use Rattle.std.specs.Prelude.{◌≡◌, ◌≢◌, ◌⊎◌, ℕ, ◌+◌, ◌<◌, ◌≤◌, Bool, true, false, List, [], ◌∷◌, ◌++◌, length, take, drop, Option, Some, None, Result, Ok, Err}
-use Rattle.sib_script.specs.Script.{entry_spelling, MayCome}
+use Rattle.sib_script.specs.Script.{entry_spelling, IsEntry}
 use Rattle.sib_script.specs.declared.entry.Entry.{Entry}
 use Rattle.sib_script.specs.declared.reader.ScriptFault.{ScriptFault}
 use Rattle.sib_script.specs.declared.reader.ScriptFault.TheVariants.{BadScript, NoMemory}
 
--- a reader: whether a link was opened, the bytes since the last whole entry, the entry that waits, how many bytes
--- were taken, and whether it met a fault
+-- a reader: the bytes since the last whole entry, the entry that waits, how many bytes were taken, and whether it met
+-- a fault
 pub record Reading : Type 0 where
-  pub opened : Bool
   pub unread : List ℕ
   pub waiting : Option Entry
   pub taken : ℕ
@@ -16,26 +15,26 @@ pub record Reading : Type 0 where
 
 -- a reader that has taken nothing
 abbrev pub fresh : Reading
-fresh = record { opened = false; unread = []; waiting = None; taken = 0; stopped = false }
+fresh = record { unread = []; waiting = None; taken = 0; stopped = false }
 
--- bytes begin the spelling of an entry that may come next, and are not the whole of it
-abbrev pub IsPart : Bool → List ℕ → Type 0
-IsPart opened bytes = (entry : Entry) × (more : List ℕ) × MayCome opened entry × (0 < length more) × (bytes ++ more ≡ entry_spelling entry)
+-- bytes begin the spelling of an entry, and are not the whole of it
+abbrev pub IsPart : List ℕ → Type 0
+IsPart bytes = (entry : Entry) × (more : List ℕ) × IsEntry entry × (0 < length more) × (bytes ++ more ≡ entry_spelling entry)
 
--- no entry that may come next has a spelling that begins with these bytes
-abbrev pub IsNoPart : Bool → List ℕ → Type 0
-IsNoPart opened bytes = (entry : Entry) (more : List ℕ) → MayCome opened entry → bytes ++ more ≢ entry_spelling entry
+-- no entry has a spelling that begins with these bytes
+abbrev pub IsNoPart : List ℕ → Type 0
+IsNoPart bytes = (entry : Entry) (more : List ℕ) → IsEntry entry → bytes ++ more ≢ entry_spelling entry
 
 -- a fault stands at the first of these bytes
 abbrev pub FaultStands : Reading → List ℕ → Type 0
 FaultStands reading [] = ⊥
-FaultStands reading (byte ∷ bytes) = IsNoPart reading.opened (reading.unread ++ byte ∷ [])
+FaultStands reading (byte ∷ bytes) = IsNoPart (reading.unread ++ byte ∷ [])
 
 -- a reader in which no entry waits takes the piece: it ends an entry, which waits then, or all of it or what comes
 -- before a fault is part of one
 abbrev pub TakesPiece : Reading → List ℕ → List ℕ → Option Entry → Reading → Type 0
-TakesPiece old piece rest (Some entry) new = MayCome old.opened entry × (old.unread ++ piece ≡ entry_spelling entry)
-    × (new ≡ record old { opened = true; unread = []; waiting = Some entry; taken = old.taken + length piece })
+TakesPiece old piece rest (Some entry) new = IsEntry entry × (old.unread ++ piece ≡ entry_spelling entry)
+    × (new ≡ record old { unread = []; waiting = Some entry; taken = old.taken + length piece })
 TakesPiece old piece rest None new = (new ≡ record old { unread = old.unread ++ piece; taken = old.taken + length piece })
     × (rest ≢ [] → (0 < length piece) × FaultStands new rest)
 
@@ -47,7 +46,7 @@ FeedsWaiting old None bytes count new = (old.stopped ≡ false) × TakesPiece ol
 -- a call with these bytes took so many of them
 pub record Feeds (old : Reading) (bytes : List ℕ) (count : ℕ) (new : Reading) : Type 0 where
   pub within : count ≤ length bytes
-  pub part : IsPart new.opened new.unread ⊎ (new.unread ≡ [])
+  pub part : IsPart new.unread ⊎ (new.unread ≡ [])
   pub does : FeedsWaiting old old.waiting bytes count new
 
 -- a call was refused: a fault stood before or stands at the next byte, and stands from then on; or there was no

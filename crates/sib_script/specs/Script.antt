@@ -1,5 +1,6 @@
 -- The format of a script: a list of entries, each with one spelling.
-use Rattle.std.specs.Prelude.{◌≡◌, ◌≢◌, ℕ, ◌≤◌, Bool, true, false, List, [], ◌∷◌, ◌++◌, flat_map, length, codes, ⊤, refl}
+use Rattle.std.specs.Prelude.{◌≡◌, ◌≢◌, ℕ, ◌<◌, ◌≤◌, ◌^◌, List, [], ◌∷◌, ◌++◌, flat_map, length, codes, ⊤, refl}
+use Rattle.std.specs.List.{AllByRecursion}
 use Rattle.std.specs.Fmt.{decimal, digits}
 use Rattle.sib_script.specs.declared.entry.TheConstants.{PIECE_LIMIT}
 use Rattle.sib_script.specs.declared.entry.Entry.{Entry}
@@ -16,42 +17,48 @@ hi_script : flat_map entry_spelling (NewLink ∷ Bytes 1 (codes "hi") ∷ []) �
 unfolding entry_spelling digits
 hi_script = refl
 
+-- the input of link 7 ends, which no entry opened, and then a delivery of no bytes comes on link 12
+end_script : flat_map entry_spelling (End 7 ∷ Bytes 12 [] ∷ []) ≡ 45 ∷ 55 ∷ 10 ∷ 62 ∷ 49 ∷ 50 ∷ 32 ∷ 48 ∷ 10 ∷ 10 ∷ []
+unfolding entry_spelling digits
+end_script = refl
+
 -- a script as it is written: its entries, one after another
 abbrev pub script_spelling : List Entry → List ℕ
 script_spelling entries = flat_map entry_spelling entries
 
--- a delivery on link 1, of at most so many bytes
-abbrev pub IsDelivery : Entry → Type 0
-IsDelivery (Bytes link bytes) = (link ≡ 1) × (length bytes ≤ PIECE_LIMIT)
-IsDelivery NewLink = ⊥
-IsDelivery (End link) = ⊥
+-- the most bytes of a delivery
+pub piece_limit : PIECE_LIMIT ≡ 65536
+piece_limit = refl
 
--- what may come next in a script of the first path: the link opens first, and then deliveries come on it
-abbrev pub MayCome : Bool → Entry → Type 0
-MayCome false entry = entry ≡ NewLink
-MayCome true entry = IsDelivery entry
+-- the number after the greatest of a link
+pub link_limit : 2 ^ 32 ≡ 4294967296
+link_limit = refl
 
--- the entries of a script of the first path, once the link was opened or before
-abbrev pub AreEntries : Bool → List Entry → Type 0
-AreEntries opened [] = ⊤
-AreEntries opened (entry ∷ entries) = MayCome opened entry × AreEntries true entries
+-- the number of a link
+abbrev pub IsLink : ℕ → Type 0
+IsLink link = (1 ≤ link) × (link < 2 ^ 32)
 
--- the link was opened by these entries
-abbrev pub opened_by : List Entry → Bool
-opened_by [] = false
-opened_by (entry ∷ entries) = true
+-- an entry that a script may have: its link has a number, and its delivery is no longer than the limit
+abbrev pub IsEntry : Entry → Type 0
+IsEntry NewLink = ⊤
+IsEntry (Bytes link bytes) = IsLink link × (length bytes ≤ PIECE_LIMIT)
+IsEntry (End link) = IsLink link
+
+-- entries that a script may have, each of them anywhere
+abbrev pub AreEntries : List Entry → Type 0
+AreEntries entries = AllByRecursion IsEntry entries
 
 -- the bytes are a script of these entries
 pub record IsScript (bytes : List ℕ) (entries : List Entry) : Type 0 where
-  pub allowed : AreEntries false entries
+  pub allowed : AreEntries entries
   pub spelled : bytes ≡ script_spelling entries
 
 -- some script begins with these bytes
 abbrev pub BeginsScript : List ℕ → Type 0
 BeginsScript bytes = (more : List ℕ) × (entries : List Entry) × IsScript (bytes ++ more) entries
 
--- the bytes begin with these entries, and no whole entry that may come next follows them
+-- the bytes begin with these entries, and no whole entry follows them
 pub record Splits (bytes : List ℕ) (entries : List Entry) (rest : List ℕ) : Type 0 where
-  pub allowed : AreEntries false entries
+  pub allowed : AreEntries entries
   pub spelled : bytes ≡ script_spelling entries ++ rest
-  pub partial : (entry : Entry) (more : List ℕ) → AreEntries false (entries ++ entry ∷ []) → rest ≢ entry_spelling entry ++ more
+  pub partial : (entry : Entry) (more : List ℕ) → IsEntry entry → rest ≢ entry_spelling entry ++ more

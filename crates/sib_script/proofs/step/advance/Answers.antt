@@ -12,7 +12,7 @@ returns-clause-leads c =
     let w = c.walk-next in
     let l = c.in_ok-last in
     let bytes = a.bytes.now in
-    leads_through a.opened a.step w.result.0 l.last a.piece.now.items c.fill.new.piece.items bytes (take (length bytes - w.result.1) (drop w.result.1 bytes)) w.result.1 l.count w.ensures.within (take_rest bytes w.result.1) w.ensures.walks w.ensures.stops (l.ensures.leads a.opened)
+    leads_through a.step w.result.0 l.last a.piece.now.items c.fill.new.piece.items bytes (take (length bytes - w.result.1) (drop w.result.1 bytes)) w.result.1 l.count w.ensures.within (take_rest bytes w.result.1) w.ensures.walks w.ensures.stops l.ensures.leads
 
 pub returns-in_err-last-clause-wanted : goal.returns-in_err-last-clause-wanted
 returns-in_err-last-clause-wanted c =
@@ -20,5 +20,5 @@ returns-in_err-last-clause-wanted c =
     let w = c.walk-next in
     let bytes = a.bytes.now in
     let piece = a.piece.now.items in
-    on_any_err c.from_residual.result (IsStep a.opened a.step piece → GoesOn a.opened a.step piece bytes) (λ h.
-    wanted_goes a.opened a.step w.result.0 piece bytes (take (length bytes - w.result.1) (drop w.result.1 bytes)) w.result.1 h w.ensures.walks (take_rest bytes w.result.1) c.in_err-last.ensures.wanted)
+    on_any_err c.from_residual.result (IsStep a.step piece → GoesOn a.step piece bytes) (λ h.
+    wanted_goes a.step w.result.0 piece bytes (take (length bytes - w.result.1) (drop w.result.1 bytes)) w.result.1 h w.ensures.walks (take_rest bytes w.result.1) c.in_err-last.ensures.wanted)

@@ -5,4 +5,4 @@ use Rattle.sib_script.proofs.reader.ScriptReader.feed.Goals as goal
 pub returns-then-is_some-clause-ok : goal.returns-then-is_some-clause-ok
 returns-then-is_some-clause-ok c =
     let i = c.self.inside in
-    waits_at _ _ c.args.bytes.now c.self.view_is (step_left i.opened i.step i.piece.items c.self.invariant) c.if-is_some.ensures
+    waits_at _ _ c.args.bytes.now c.self.view_is (step_left i.step i.piece.items c.self.invariant) c.if-is_some.ensures

@@ -27,8 +27,8 @@ returns-then-is_end-clause-ok c =
     let i = c.self.inside in
     let s = c.in_ok-step in
     let bytes = c.args.bytes.now in
-    let end = ends_at i.opened i.step s.step i.piece.items c.advance.new.piece.items bytes (take (length bytes - s.count) (drop s.count bytes)) s.count c.self.invariant s.ensures.leads (sym (take_rest bytes s.count)) (c.if-is_end.ensures.0 refl) in
-    ended_at _ c.args.self.now _ bytes s.count c.whole_entry.result c.self.view_is c.requires.idle c.requires.sound (subst (λ (e : Entry). EndsAt i.opened (unread_of i.step i.piece.items) bytes s.count e) (sym c.whole_entry.ensures.entry) end) refl
+    let end = ends_at i.step s.step i.piece.items c.advance.new.piece.items bytes (take (length bytes - s.count) (drop s.count bytes)) s.count c.self.invariant s.ensures.leads (sym (take_rest bytes s.count)) (c.if-is_end.ensures.0 refl) in
+    ended_at _ c.args.self.now _ bytes s.count c.whole_entry.result c.self.view_is c.requires.idle c.requires.sound (subst (λ (e : Entry). EndsAt (unread_of i.step i.piece.items) bytes s.count e) (sym c.whole_entry.ensures.entry) end) refl
 
 pub returns-then-not-is_empty-clause-refused : goal.returns-then-not-is_empty-clause-refused
 returns-then-not-is_empty-clause-refused c =
