@@ -18,7 +18,7 @@ pub use memory::NoMemory;
 pub use pattern::{Pattern, Slot};
 pub use steps::Steps;
 pub use table::{TermId, TermTable};
-pub use term::{Term, TermFault};
+pub use term::{TERM_LIMIT, Term, TermFault};
 pub use text::{Text, text_len};
 pub use triple::Triple;
 

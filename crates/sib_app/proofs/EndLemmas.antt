@@ -56,7 +56,7 @@ module _ (name : List ℕ) (old given : Option (List ℕ)) (read : List ℕ) (re
     refused_inside reader mid r e ends h.running,
     record {
       entries = h.entries;
-      deliveries = h.deliveries;
+      events = h.events;
       splits = left_splits read h.entries reader.unread h.allowed h.spelled h.part;
       taken = h.told;
       given = h.given;
@@ -72,12 +72,12 @@ module _ (name : List ℕ) (old given : Option (List ℕ)) (read : List ℕ) (re
 
   -- all that is written for a script
   script_output : (h : Replays name old given read reader session) → reader.unread ≡ [] → (output : List ℕ) → IsOutput name read output
-      → answers name h.deliveries ++ last_line session.core ≡ output
+      → answers name h.events ++ last_line session.core ≡ output
   script_output h none output (fs, left, gs, splits, told, is) =
       let same = splits_unique read h.entries fs [] left (splits_script read h.entries (script_read h none)) splits in
-      let gone : gs ≡ h.deliveries = told_same taken_once_law name h.entries h.deliveries gs h.told (subst (λ l. AreTaken name l gs) (sym same.0) told) in
-      ap (λ (s : Space). answers name h.deliveries ++ last_line s) h.stands.core
-      ∙ ap (λ l. answers name h.deliveries ++ farewell name h.deliveries l) same.1
+      let gone : gs ≡ h.events = told_same taken_once_law name h.entries h.events gs h.told (subst (λ l. AreTaken name l gs) (sym same.0) told) in
+      ap (λ (s : Space). answers name h.events ++ last_line s) h.stands.core
+      ∙ ap (λ l. answers name h.events ++ farewell name h.events l) same.1
       ∙ ap (λ ds. answers name ds ++ farewell name ds left) (sym gone) ∙ sym is
 
   -- the last line is written behind the answers
@@ -88,16 +88,16 @@ module _ (name : List ℕ) (old given : Option (List ℕ)) (read : List ℕ) (re
       let none = granted_between reader mid r e ends in
       record {
         entries = h.entries;
-        deliveries = h.deliveries;
+        events = h.events;
         script = script_read h none;
         taken = h.told;
-        given = subst (Appends old now) (ap (λ l. answers name h.deliveries ++ l) (is ∙ ap last_line h.stands.core)) (Appends-trans old given now (answers name h.deliveries) line h.given w);
+        given = subst (Appends old now) (ap (λ l. answers name h.events ++ l) (is ∙ ap last_line h.stands.core)) (Appends-trans old given now (answers name h.events) line h.given w);
       }
   ends_script r now faults risen line WriteFault h e ends is w =
       let none = granted_between reader mid r e ends in (
         w.0,
-        λ output o. subst (AppendsPart old now) (ap (λ l. answers name h.deliveries ++ l) is ∙ script_output h none output o)
-            (part_after old given now (answers name h.deliveries) line h.given w.1),
+        λ output o. subst (AppendsPart old now) (ap (λ l. answers name h.events ++ l) is ∙ script_output h none output o)
+            (part_after old given now (answers name h.events) line h.given w.1),
       )
   ends_script r now faults risen line BadScript h e ends is w = absurd w
   ends_script r now faults risen line ReadFault h e ends is w = absurd w

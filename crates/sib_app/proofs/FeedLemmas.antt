@@ -1,11 +1,11 @@
 -- What a call of the reader does to a replay.
-use Rattle.std.proofs.Common.{◌≡◌, ◌∙◌, ap, sym, refl, subst, arith, ℕ, zero, suc, ◌+◌, ◌<◌, ◌^◌, false, List, [], ◌∷◌, ◌++◌, ◌⊎◌, length, take, drop, Option, Some, None, append_assoc, append-nil, length-append, inl, inr, length-take}
+use Rattle.std.proofs.Common.{◌≡◌, ◌∙◌, ap, sym, refl, subst, arith, ℕ, zero, suc, ◌+◌, ◌<◌, ◌^◌, false, List, [], ◌∷◌, ◌++◌, length, take, drop, Option, Some, None, append_assoc, append-nil, length-append, inl, inr, length-take}
 use Rattle.std.proofs.lemmas.Bool.{false≢true}
 use Rattle.sib_io.proofs.KnownLemmas.{whole_part}
 use Rattle.sib_script.specs.declared.entry.Entry.{Entry}
 use Rattle.sib_script.specs.declared.reader.ScriptFault as fault
-use Rattle.sib_script.specs.Script.{entry_spelling, script_spelling, MayCome, opened_by}
-use Rattle.sib_script.specs.Reading.{Reading, IsPart, IsNoPart, TakesPiece, FeedsWaiting, Feeds, Refuses}
+use Rattle.sib_script.specs.Script.{entry_spelling, script_spelling}
+use Rattle.sib_script.specs.Reading.{Reading, IsNoPart, TakesPiece, FeedsWaiting, Feeds, Refuses}
 use Rattle.sib_script.proofs.ScriptLaws.{entry_filled, part_no_entry, left_splits, stuck_splits, dead_end}
 use Rattle.sib_app.specs.Output.{answers}
 use Rattle.sib_app.specs.Output.{IsOutput}
@@ -26,15 +26,13 @@ module _ (name : List ℕ) (old given : Option (List ℕ)) (read bytes : List �
   feeds_on count h f none =
       let t = subst (λ w. TakesPiece reader (take count bytes) (drop count bytes) w mid) none (took count h f).1 in
       let piece = take count bytes in
-      let opened : mid.opened ≡ opened_by h.entries = ap (λ r. r.opened) t.0 ∙ h.opened in
       record {
         entries = h.entries;
-        deliveries = h.deliveries;
+        events = h.events;
         allowed = h.allowed;
         spelled = ap (λ l. l ++ piece) h.spelled ∙ append_assoc (script_spelling h.entries) reader.unread piece
             ∙ ap (λ l. script_spelling h.entries ++ l) (sym (ap (λ r. r.unread) t.0));
-        part = elim f.part as (λ _. IsPart (opened_by h.entries) mid.unread ⊎ (mid.unread ≡ [])) [ inl p ↦ inl (subst (λ b. IsPart b mid.unread) opened p) | inr e ↦ inr e ];
-        opened = opened;
+        part = f.part;
         waiting = refl;
         running = ap (λ r. r.stopped) t.0 ∙ h.running;
         taken = ap (λ r. r.taken) t.0 ∙ ap (λ n. n + length piece) h.taken ∙ sym (length-append read piece);
@@ -51,13 +49,12 @@ module _ (name : List ℕ) (old given : Option (List ℕ)) (read bytes : List �
       let piece = take count bytes in
       record {
         entries = h.entries;
-        deliveries = h.deliveries;
+        events = h.events;
         allowed = h.allowed;
-        comes = subst (λ b. MayCome b entry) h.opened t.0;
+        comes = t.0;
         small = omega (arith, length-append read piece, length-take count bytes);
         spelled = ap (λ l. l ++ piece) h.spelled ∙ append_assoc (script_spelling h.entries) reader.unread piece
             ∙ ap (λ l. script_spelling h.entries ++ l) t.1;
-        opened = ap (λ r. r.opened) t.2;
         unread = ap (λ r. r.unread) t.2;
         waiting = refl;
         running = ap (λ r. r.stopped) t.2 ∙ h.running;
@@ -83,7 +80,7 @@ module _ (name : List ℕ) (old given : Option (List ℕ)) (read bytes : List �
       elim mid.waiting as (λ w. TakesPiece reader [] bytes w mid → 0 < 0) [
         | None ↦ λ t. (t.1 (λ e. omega (arith, ap length e))).0
         | Some e ↦ λ t. absurd (elim h.part as (λ _. ⊥) [
-          | inl p ↦ part_no_entry (opened_by h.entries) reader.unread e [] p (subst (λ b. MayCome b e) h.opened t.0) (sym (append-nil reader.unread) ∙ t.1 ∙ sym (append-nil (entry_spelling e)))
+          | inl p ↦ part_no_entry reader.unread e [] p t.0 (sym (append-nil reader.unread) ∙ t.1 ∙ sym (append-nil (entry_spelling e)))
           | inr n ↦ entry_filled e [] (append-nil (entry_spelling e) ∙ sym t.1 ∙ append-nil reader.unread ∙ n)
         ])
       ]
@@ -92,8 +89,8 @@ module _ (name : List ℕ) (old given : Option (List ℕ)) (read bytes : List �
 
   -- where a replay stands it was given a front of all that is written
   pub front_of_replay : Replays name old given read reader session → GivesFront name old given read
-  front_of_replay h = front_of_output name old given read reader.unread h.entries h.deliveries
-      (left_splits read h.entries reader.unread h.allowed h.spelled h.part) h.told (whole_part old given (answers name h.deliveries) h.given)
+  front_of_replay h = front_of_output name old given read reader.unread h.entries h.events
+      (left_splits read h.entries reader.unread h.allowed h.spelled h.part) h.told (whole_part old given (answers name h.events) h.given)
 
 -- a front of what is written for some bytes is one of what is written for more
 pub front_of_more : (name : List ℕ) (old new : Option (List ℕ)) (read bytes : List ℕ) → GivesFront name old new read → GivesFront name old new (read ++ bytes)
@@ -118,16 +115,15 @@ refused_stops name old given faults now read bytes reader mid session fault.TheV
 refused_stops name old given faults now read [] reader mid session (fault.TheVariants.BadScript place) h r =
     absurd (elim r.2 as (λ _. ⊥) [ inl s ↦ false≢true (sym h.running ∙ s) | inr s ↦ s.1 ])
 refused_stops name old given faults now read (c ∷ more) reader mid session (fault.TheVariants.BadScript place) h r =
-    let stuck : IsNoPart reader.opened (reader.unread ++ c ∷ []) =
-    elim r.2 as (λ _. IsNoPart reader.opened (reader.unread ++ c ∷ [])) [ inl s ↦ absurd (false≢true (sym h.running ∙ s)) | inr s ↦ s.1 ]
-    in
-    let here : IsNoPart (opened_by h.entries) (reader.unread ++ c ∷ []) = subst (λ b. IsNoPart b (reader.unread ++ c ∷ [])) h.opened stuck in (
+    let here : IsNoPart (reader.unread ++ c ∷ []) =
+    elim r.2 as (λ _. IsNoPart (reader.unread ++ c ∷ [])) [ inl s ↦ absurd (false≢true (sym h.running ∙ s)) | inr s ↦ s.1 ]
+    in (
       dead_end read h.entries reader.unread c more h.allowed h.spelled h.part here,
       reader.unread ++ c ∷ more,
       omega (arith, length-append reader.unread (c ∷ more)),
       record {
         entries = h.entries;
-        deliveries = h.deliveries;
+        events = h.events;
         splits = stuck_splits read h.entries reader.unread c more h.allowed h.spelled h.part here;
         taken = h.told;
         given = h.given;
@@ -139,11 +135,10 @@ pub untold : (name : List ℕ) (old given new : Option (List ℕ)) (read : List 
     → Replays name None new read reader session
 untold name old given new read reader session h = record {
   entries = h.entries;
-  deliveries = h.deliveries;
+  events = h.events;
   allowed = h.allowed;
   spelled = h.spelled;
   part = h.part;
-  opened = h.opened;
   waiting = h.waiting;
   running = h.running;
   taken = h.taken;

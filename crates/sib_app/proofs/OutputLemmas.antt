@@ -1,100 +1,76 @@
 -- What is written for some entries is the front of what is written for these and more.
-use Rattle.std.proofs.Common.{◌≡◌, ◌∙◌, ap, sym, refl, subst, ℕ, true, false, List, [], ◌∷◌, ◌++◌, map, length, Option, None, append_assoc, append-nil, length-append, arith}
-use Rattle.std.proofs.lemmas.List.{length-map}
+use Rattle.std.proofs.Common.{◌≡◌, ◌∙◌, ap, sym, refl, subst, ℕ, true, false, List, [], ◌∷◌, ◌++◌, Option, append_assoc, append-nil}
 use Rattle.std.specs.Bool.{MatchBool}
-use Rattle.std.specs.List.{list_all}
 use Rattle.session_core.specs.declared.request.FirstRequest.{FirstRequest}
 use Rattle.first_requests.specs.Requests.{TakenAs}
 use Rattle.sib_script.specs.declared.entry.Entry.{Entry}
 use Rattle.sib_script.specs.declared.entry.Entry.TheVariants.{NewLink, Bytes, End}
-use Rattle.sib_script.proofs.ScriptLaws.{heads_same, tails_same}
-use Rattle.sib_app.specs.Output.{Delivery, is_request, delivered, IsTaken, AreTakenAfter, AreTaken, answer, answers_after, answers}
+use Rattle.sib_app.specs.Output.{Event, Closed, is_open, heard_as, IsHeard, IsTaken, AreTakenAfter, AreTaken, answer, answers_after, answers}
 
--- the answers to some deliveries, and then those to more
-pub answers_after-append : (name : List ℕ) (before ds es : List Delivery) → answers_after name before (ds ++ es) ≡ answers_after name before ds ++ answers_after name (before ++ ds) es
-answers_after-append name before [] es = ap (λ b. answers_after name b es) (sym (append-nil before))
-answers_after-append name before (d ∷ ds) es =
-    ap (λ l. answer name before d ++ l) (answers_after-append name (before ++ d ∷ []) ds es
-    ∙ ap (λ b. answers_after name (before ++ d ∷ []) ds ++ answers_after name b es) (append_assoc before (d ∷ []) ds))
-    ∙ sym (append_assoc (answer name before d) (answers_after name (before ++ d ∷ []) ds) (answers_after name (before ++ d ∷ ds) es))
+-- the answers to some entries, and then those to more
+pub answers_after-append : (name : List ℕ) (before vs ws : List Event) → answers_after name before (vs ++ ws) ≡ answers_after name before vs ++ answers_after name (before ++ vs) ws
+answers_after-append name before [] ws = ap (λ b. answers_after name b ws) (sym (append-nil before))
+answers_after-append name before (v ∷ vs) ws =
+    ap (λ l. answer name before v ++ l) (answers_after-append name (before ++ v ∷ []) vs ws
+    ∙ ap (λ b. answers_after name (before ++ v ∷ []) vs ++ answers_after name b ws) (append_assoc before (v ∷ []) vs))
+    ∙ sym (append_assoc (answer name before v) (answers_after name (before ++ v ∷ []) vs) (answers_after name (before ++ v ∷ vs) ws))
 
--- the answers to one delivery more
-pub answers-push : (name : List ℕ) (ds : List Delivery) (d : Delivery) → answers name (ds ++ d ∷ []) ≡ answers name ds ++ answer name ds d
-answers-push name ds d = answers_after-append name [] ds (d ∷ []) ∙ ap (λ l. answers name ds ++ l) (append-nil (answer name ds d))
+-- the answers to one entry more
+pub answers-push : (name : List ℕ) (vs : List Event) (v : Event) → answers name (vs ++ v ∷ []) ≡ answers name vs ++ answer name vs v
+answers-push name vs v = answers_after-append name [] vs (v ∷ []) ∙ ap (λ l. answers name vs ++ l) (append-nil (answer name vs v))
 
--- one delivery more is taken as it is
-taken-push : (name : List ℕ) (before ds : List Delivery) (d : Delivery) → AreTakenAfter name before ds → IsTaken name (before ++ ds) d → AreTakenAfter name before (ds ++ d ∷ [])
-taken-push name before [] d t h = (subst (λ b. IsTaken name b d) (append-nil before) h, tt)
-taken-push name before (e ∷ ds) d t h =
-    (t.0, taken-push name (before ++ e ∷ []) ds d t.1 (subst (λ b. IsTaken name b d) (sym (append_assoc before (e ∷ []) ds)) h))
+-- one entry more is taken as it is
+taken_after-push : (name : List ℕ) (before : List Event) (es : List Entry) (vs : List Event) (e : Entry) (v : Event) → AreTakenAfter name before es vs → IsTaken name (before ++ vs) e v
+    → AreTakenAfter name before (es ++ e ∷ []) (vs ++ v ∷ [])
+taken_after-push name before [] [] e v t h = (subst (λ b. IsTaken name b e v) (append-nil before) h, tt)
+taken_after-push name before [] (w ∷ vs) e v t h = absurd t
+taken_after-push name before (d ∷ es) [] e v t h = absurd t
+taken_after-push name before (d ∷ es) (w ∷ vs) e v t h =
+    (t.0, taken_after-push name (before ++ w ∷ []) es vs e v t.1 (subst (λ b. IsTaken name b e v) (sym (append_assoc before (w ∷ []) vs)) h))
 
--- the deliveries of some entries and then of more
-delivered-append : (es fs : List Entry) → delivered (es ++ fs) ≡ delivered es ++ delivered fs
-delivered-append [] fs = refl
-delivered-append (NewLink ∷ es) fs = delivered-append es fs
-delivered-append (Bytes link bytes ∷ es) fs = ap (λ l. bytes ∷ l) (delivered-append es fs)
-delivered-append (End link ∷ es) fs = delivered-append es fs
-
--- the bytes of some deliveries and one more
-map-push : (ds : List Delivery) (d : Delivery) → map (λ x. x.bytes) (ds ++ d ∷ []) ≡ map (λ x. x.bytes) ds ++ d.bytes ∷ []
-map-push [] d = refl
-map-push (e ∷ ds) d = ap (λ l. e.bytes ∷ l) (map-push ds d)
-
--- an entry more that delivers nothing
-pub told-silent : (name : List ℕ) (es : List Entry) (ds : List Delivery) (e : Entry) → delivered (e ∷ []) ≡ [] → AreTaken name es ds → AreTaken name (es ++ e ∷ []) ds
-told-silent name es ds e h t = record {
-  same = t.same ∙ sym (delivered-append es (e ∷ []) ∙ ap (λ l. delivered es ++ l) h ∙ append-nil (delivered es));
-  taken = t.taken;
-}
-
--- an entry more that delivers bytes
-pub told-delivery : (name : List ℕ) (es : List Entry) (ds : List Delivery) (link : ℕ) (d : Delivery) → IsTaken name ds d → AreTaken name es ds → AreTaken name (es ++ Bytes link d.bytes ∷ []) (ds ++ d ∷ [])
-told-delivery name es ds link d h t = record {
-  same = map-push ds d ∙ ap (λ l. l ++ d.bytes ∷ []) t.same ∙ sym (delivered-append es (Bytes link d.bytes ∷ []));
-  taken = taken-push name [] ds d t.taken h;
-}
+pub taken-push : (name : List ℕ) (es : List Entry) (vs : List Event) (e : Entry) (v : Event) → AreTaken name es vs → IsTaken name vs e v → AreTaken name (es ++ e ∷ []) (vs ++ v ∷ [])
+taken-push name es vs e v t h = taken_after-push name [] es vs e v t h
 
 -- a delivery is taken as at most one thing
 module _ (once : (name bytes : List ℕ) (a b : Option FirstRequest) → TakenAs name bytes a → TakenAs name bytes b → a ≡ b) where
-  -- two deliveries of the same bytes after the same ones are the same
-  same_delivery : (name : List ℕ) (before : List Delivery) (d e : Delivery) → d.bytes ≡ e.bytes → IsTaken name before d → IsTaken name before e → d ≡ e
-  same_delivery name before d e h s t =
-      let request : d.request ≡ e.request =
-      elim (list_all is_request before)
-      as (λ b. MatchBool b (TakenAs name d.bytes d.request) (d.request ≡ None) → MatchBool b (TakenAs name e.bytes e.request) (e.request ≡ None) → d.request ≡ e.request)
-      [ true ↦ λ x y. once name e.bytes d.request e.request (subst (λ l. TakenAs name l d.request) h x) y | false ↦ λ x y. x ∙ sym y ] s t
-      in
-      let of_bytes : List ℕ → Delivery = λ l. record { bytes = l; request = d.request } in
-      let of_request : Option FirstRequest → Delivery = λ o. record { bytes = e.bytes; request = o } in
-      ap of_bytes h ∙ ap of_request request
+  -- a delivery on an open link is taken as one thing
+  heard_once : (name : List ℕ) (link : ℕ) (bytes : List ℕ) (v w : Event) → IsHeard name link bytes v → IsHeard name link bytes w → v ≡ w
+  heard_once name link bytes v w (a, p, is) (b, q, as_) = is ∙ ap (heard_as link bytes) (once name bytes a b p q) ∙ sym as_
 
-  -- deliveries whose bytes begin with those of others begin with the others
-  taken_front : (name : List ℕ) (before ds es : List Delivery) (more : List (List ℕ)) → AreTakenAfter name before ds → AreTakenAfter name before es
-      → map (λ x. x.bytes) es ≡ map (λ x. x.bytes) ds ++ more → (tail : List Delivery) × (es ≡ ds ++ tail)
-  taken_front name before [] es more s t h = (es, refl)
-  taken_front name before (d ∷ ds) [] more s t h = absurd (cc)
-  taken_front name before (d ∷ ds) (e ∷ es) more s t h =
-      let same : e ≡ d = same_delivery name before e d (heads_same e.bytes d.bytes (map (λ x. x.bytes) es) (map (λ x. x.bytes) ds ++ more) h) t.0 s.0 in
-      let rest = taken_front name (before ++ d ∷ []) ds es more s.1 (subst (λ x. AreTakenAfter name (before ++ x ∷ []) es) same t.1)
-      (tails_same e.bytes d.bytes (map (λ x. x.bytes) es) (map (λ x. x.bytes) ds ++ more) h)
-      in
-      (rest.0, ap (λ x. x ∷ es) same ∙ ap (λ l. d ∷ l) rest.1)
+  -- an entry is taken as one thing
+  taken_once : (name : List ℕ) (before : List Event) (e : Entry) (v w : Event) → IsTaken name before e v → IsTaken name before e w → v ≡ w
+  taken_once name before NewLink v w s t = s ∙ sym t
+  taken_once name before (Bytes link bytes) v w s t =
+      elim (is_open before link)
+      as (λ b. MatchBool b (IsHeard name link bytes v) (v ≡ Closed link) → MatchBool b (IsHeard name link bytes w) (w ≡ Closed link) → v ≡ w)
+      [ true ↦ λ x y. heard_once name link bytes v w x y | false ↦ λ x y. x ∙ sym y ] s t
+  taken_once name before (End link) v w s t = s ∙ sym t
 
-  -- what is written for more entries begins with the answers to the first
-  pub told_front : (name : List ℕ) (es tail : List Entry) (ds fs : List Delivery) → AreTaken name es ds → AreTaken name (es ++ tail) fs
-      → (rest : List Delivery) × (fs ≡ ds ++ rest)
-  told_front name es tail ds fs s t = taken_front name [] ds fs (delivered tail) s.taken t.taken (t.same ∙ delivered-append es tail ∙ ap (λ l. l ++ delivered tail) (sym s.same))
+  -- what more entries are taken as begins with what the first are
+  taken_front : (name : List ℕ) (before : List Event) (es tail : List Entry) (vs ws : List Event) → AreTakenAfter name before es vs → AreTakenAfter name before (es ++ tail) ws
+      → (rest : List Event) × (ws ≡ vs ++ rest)
+  taken_front name before [] tail [] ws s t = (ws, refl)
+  taken_front name before [] tail (v ∷ vs) ws s t = absurd s
+  taken_front name before (e ∷ es) tail [] ws s t = absurd s
+  taken_front name before (e ∷ es) tail (v ∷ vs) [] s t = absurd t
+  taken_front name before (e ∷ es) tail (v ∷ vs) (w ∷ ws) s t =
+      let same : w ≡ v = taken_once name before e w v t.0 s.0 in
+      let rest = taken_front name (before ++ v ∷ []) es tail vs ws s.1 (subst (λ x. AreTakenAfter name (before ++ x ∷ []) (es ++ tail) ws) same t.1) in
+      (rest.0, ap (λ x. x ∷ ws) same ∙ ap (λ l. v ∷ l) rest.1)
 
-  -- deliveries of the same entries are the same
-  pub told_same : (name : List ℕ) (es : List Entry) (ds fs : List Delivery) → AreTaken name es ds → AreTaken name es fs → fs ≡ ds
-  told_same name es ds fs s t =
-      let front = told_front name es [] ds fs s (subst (λ l. AreTaken name l fs) (sym (append-nil es)) t) in
-      let same : map (λ (x : Delivery). x.bytes) fs ≡ map (λ (x : Delivery). x.bytes) ds = t.same ∙ sym s.same in
-      let short : length front.0 ≡ 0 =
-      omega (arith, ap length same, length-map fs (λ (x : Delivery). x.bytes), length-map ds (λ (x : Delivery). x.bytes), ap length front.1, length-append ds front.0)
-      in
-      front.1 ∙ ap (λ l. ds ++ l) (nothing front.0 short) ∙ append-nil ds
-    where
-      nothing : (l : List Delivery) → length l ≡ 0 → l ≡ []
-      nothing [] h = refl
-      nothing (x ∷ l) h = absurd (omega arith)
+  pub told_front : (name : List ℕ) (es tail : List Entry) (vs ws : List Event) → AreTaken name es vs → AreTaken name (es ++ tail) ws → (rest : List Event) × (ws ≡ vs ++ rest)
+  told_front name es tail vs ws s t = taken_front name [] es tail vs ws s t
+
+  -- entries are taken as one thing
+  same_after : (name : List ℕ) (before : List Event) (es : List Entry) (vs ws : List Event) → AreTakenAfter name before es vs → AreTakenAfter name before es ws → ws ≡ vs
+  same_after name before [] [] [] s t = refl
+  same_after name before [] [] (w ∷ ws) s t = absurd t
+  same_after name before [] (v ∷ vs) ws s t = absurd s
+  same_after name before (e ∷ es) [] ws s t = absurd s
+  same_after name before (e ∷ es) (v ∷ vs) [] s t = absurd t
+  same_after name before (e ∷ es) (v ∷ vs) (w ∷ ws) s t =
+      let same : w ≡ v = taken_once name before e w v t.0 s.0 in
+      ap (λ x. x ∷ ws) same ∙ ap (λ l. v ∷ l) (same_after name (before ++ v ∷ []) es vs ws s.1 (subst (λ x. AreTakenAfter name (before ++ x ∷ []) es ws) same t.1))
+
+  pub told_same : (name : List ℕ) (es : List Entry) (vs ws : List Event) → AreTaken name es vs → AreTaken name es ws → ws ≡ vs
+  told_same name es vs ws s t = same_after name [] es vs ws s t

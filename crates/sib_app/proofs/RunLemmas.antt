@@ -6,7 +6,8 @@ use Rattle.sib_io.specs.Causes.{Rose, AppendsPart}
 use Rattle.sib_io.proofs.KnownLemmas.{whole_part, kept_part, part_kept}
 use Rattle.sib_script.specs.declared.entry.Entry.{Entry}
 use Rattle.sib_script.specs.Script.{entry_spelling, script_spelling, Splits, IsScript, BeginsScript}
-use Rattle.sib_script.proofs.ScriptLaws.{splits_script, splits_unique, inside_no_script, script_spelling-push, heads_same, tails_same, fronts, Shorter, Longer}
+use Rattle.sib_script.proofs.ScriptLaws.{splits_script, splits_unique, inside_no_script, script_spelling-push, entries_push, fronts, Shorter, Longer}
+use Rattle.m3_terms.proofs.Lists.{heads_same, tails_same}
 use Rattle.first_requests.proofs.Taken.{taken_once_law}
 use Rattle.sib_app.specs.Output.{answers, farewell, AreTaken, IsOutput}
 use Rattle.sib_app.specs.Ending.{Outside, Ended, Outcome, GivesPart, GivesAnswers, GivesAll, GivesBefore, IsReplay, status_of}
@@ -48,7 +49,7 @@ dead_stays b es r more s dead = record {
       k,
       es ++ e ∷ [],
       record {
-        allowed = a;
+        allowed = entries_push es e s.allowed a;
         spelled = ap (λ l. l ++ k) s.spelled ∙ append_assoc (script_spelling es) r k ∙ ap (λ l. script_spelling es ++ l) p ∙ sym (script_spelling-push es e);
       },
     )
@@ -59,14 +60,14 @@ dead_stays b es r more s dead = record {
 -- all that was given is a front of the output where the answers to the whole entries were
 front_of_answers : (name : List ℕ) (old new : Option (List ℕ)) (read rest : List ℕ) → GivesAnswers name old new read rest → GivesFront name old new read
 front_of_answers name old new read rest g =
-    front_of_output name old new read rest g.entries g.deliveries g.splits g.taken (whole_part old new (answers name g.deliveries) g.given)
+    front_of_output name old new read rest g.entries g.events g.splits g.taken (whole_part old new (answers name g.events) g.given)
 
 -- the whole output of a script is what was given
 all_of_output : (name : List ℕ) (old new : Option (List ℕ)) (read output : List ℕ) → GivesAll name old new read → IsOutput name read output → Appends old new output
 all_of_output name old new read output g (fs, left, gs, splits, taken, is) =
     let same = splits_unique read g.entries fs [] left (splits_script read g.entries g.script) splits in
-    let gone : gs ≡ g.deliveries = told_same taken_once_law name g.entries g.deliveries gs g.taken (subst (λ l. AreTaken name l gs) (sym same.0) taken) in
-    subst (Appends old new) (ap (λ l. answers name g.deliveries ++ farewell name g.deliveries l) same.1
+    let gone : gs ≡ g.events = told_same taken_once_law name g.entries g.events gs g.taken (subst (λ l. AreTaken name l gs) (sym same.0) taken) in
+    subst (Appends old new) (ap (λ l. answers name g.events ++ farewell name g.events l) same.1
     ∙ ap (λ ds. answers name ds ++ farewell name ds left) (sym gone) ∙ sym is) g.given
 
 module _ (name : List ℕ) (old new : Outside) where
@@ -89,7 +90,7 @@ module _ (name : List ℕ) (old new : Outside) where
               rest ++ more,
               record {
                 entries = gives.entries;
-                deliveries = gives.deliveries;
+                events = gives.events;
                 splits = dead_stays e.read gives.entries rest more gives.splits dead;
                 taken = gives.taken;
                 given = gives.given;

@@ -1,88 +1,197 @@
--- The three ways in which a session answers a delivery.
-use Rattle.std.proofs.Common.{◌≡◌, ◌∙◌, ap, sym, refl, subst, ℕ, ◌+◌, ◌-◌, ◌^◌, ◌<◌, min, arith, true, false, cond, ◌&&◌, List, [], ◌∷◌, ◌++◌, length, Option, Some, None, Result, Ok, Err, IfOk, OnOk}
-use Rattle.std.proofs.lemmas.Bool.{false≢true}
+-- The ways in which a session answers an entry.
+use Rattle.std.proofs.Common.{◌≡◌, ◌∙◌, ap, sym, refl, subst, ℕ, ◌+◌, ◌-◌, ◌^◌, ◌<◌, ◌≤◌, ◌==◌, min, arith, true, false, cond, ◌||◌, nat_le, List, [], ◌∷◌, ◌++◌, length, Option, Some, None, Result, Ok, Err, IfOk, OnOk, inl, inr}
+use Rattle.std.proofs.lemmas.Bool.{false≢true, le-leb, eq-eqb}
+use Rattle.std.proofs.lemmas.Bool.Decides.{eqb_tells, leb_tells}
 use Rattle.std.specs.Bool.{MatchBool}
-use Rattle.std.specs.List.{list_all}
+use Rattle.std.specs.Option.{is_some}
 use Rattle.ssap_items.specs.Canon.{canonical}
 use Rattle.session_core.specs.declared.request.FirstRequest.{FirstRequest}
 use Rattle.session_core.specs.Space.{after, confirm_of}
 use Rattle.first_requests.specs.Requests.{TakenAs}
-use Rattle.sib_app.specs.Output.{Delivery, is_request, place_after, answer_open, message_lines, form_line, closed_line}
-use Rattle.sib_app.specs.Session.{Stands, Answers}
+use Rattle.sib_script.specs.declared.entry.Entry.TheVariants.{NewLink, Bytes, End}
+use Rattle.sib_app.specs.Output.{Event, Opens, Full, Asks, Stops, Ends, Closed, counted, opened, is_open, is_full, heard, heard_as, IsHeard, message_lines, form_line, closed_line, full_line}
+use Rattle.sib_app.specs.Session.{Knows, Stands, Answers, Fits}
 use Rattle.sib_app.specs.declared.session.Session.{Session}
-use Rattle.sib_app.proofs.SessionLemmas.{name_of_space, all-push, space_after-request, space_after-none, place-push}
+use Rattle.sib_app.proofs.SessionLemmas.{name_of_space, stands_silent, stands_opens, stands_closes, stands_asks}
 
--- a delivery that is no request
-none_of : List ℕ → Delivery
-none_of bytes = record { bytes = bytes; request = None }
+-- the place of a link, where it is the last and open
+abbrev pub place_of : Session → ℕ → Option ℕ
+place_of session link = cond (session.opened == link) session.heard None
 
--- whether all are requests, with one more that is none
-no_more : (before : List Delivery) (bytes : List ℕ) → list_all is_request (before ++ record { bytes = bytes; request = None } ∷ []) ≡ false
-no_more before bytes =
-    all-push before (record { bytes = bytes; request = None })
-    ∙ elim (list_all is_request before) as (λ b. (b && false) ≡ false) [ true ↦ refl | false ↦ refl ]
+-- an option is none or some
+some_or_none : (P : Type 0) (o : Option ℕ) → (o ≡ None → P) → ((n : ℕ) → o ≡ Some n → P) → P
+some_or_none P None f g = f refl
+some_or_none P (Some n) f g = g n refl
 
--- a link that stopped answers with the line for that
-pub answers_closed : (name : List ℕ) (before : List Delivery) (bytes written : List ℕ) (session : Session) → Stands name session before
-    → session.is_open ≡ false → written ≡ closed_line → Answers name before bytes written session
-answers_closed name before bytes written session s closed line =
-    let stopped : list_all is_request before ≡ false = sym s.lives ∙ closed in
-    record {
-      request = None;
-      taken = subst (λ b. MatchBool b (TakenAs name bytes None) (◌≡◌ {A = Option FirstRequest} None None)) (sym stopped) refl;
-      answer = line ∙ ap (λ b. cond b (answer_open name before None) closed_line) (sym stopped);
-      stands = record {
-        core = s.core ∙ sym (space_after-none name before bytes);
-        lives = closed ∙ sym (no_more before bytes);
-        heard = λ h. absurd (false≢true (sym closed ∙ h));
-      };
-    }
+-- something is not nothing
+some_not_none : (n : ℕ) → ◌≡◌ {A = Option ℕ} (Some n) None → ⊥
+some_not_none n e = cc
 
--- a number that fits stands below the greatest
-unbound : (n : ℕ) → n < 2 ^ 64 → min n (2 ^ 64 - 1) ≡ n
-unbound n h = omega arith
+-- a place is that of the last link
+pub place_some : (session : Session) (link place : ℕ) → place_of session link ≡ Some place → (session.opened ≡ link) × (session.heard ≡ Some place)
+place_some session link place h =
+    elim (eqb_tells session.opened link) as (λ _. (session.opened ≡ link) × (session.heard ≡ Some place)) [
+      | inl told ↦ (told.1, sym (ap (λ b. cond b session.heard None) told.0) ∙ h)
+      | inr off ↦ absurd (some_not_none place (sym h ∙ ap (λ b. cond b session.heard None) off.0))
+    ]
 
--- an open link answers a request with its confirm
-pub answers_request : (name : List ℕ) (before : List Delivery) (bytes written : List ℕ) (request : FirstRequest) (session new : Session)
-    → Stands name session before → session.is_open ≡ true → TakenAs session.core.name bytes (Some request)
-    → written ≡ message_lines (canonical (confirm_of session.core request))
-    → new ≡ record session { core = after session.core request; heard = min (session.heard + length bytes) (2 ^ 64 - 1) }
-    → place_after before + length bytes < 2 ^ 64 → Answers name before bytes written new
-answers_request name before bytes written request session new s opened taken line is fits =
-    let going : list_all is_request before ≡ true = sym s.lives ∙ opened in
-    let named : session.core.name ≡ name = ap (λ space. space.name) s.core ∙ name_of_space name before in
-    record {
-      request = Some request;
-      taken = subst (λ b. MatchBool b (TakenAs name bytes (Some request)) (◌≡◌ {A = Option FirstRequest} (Some request) None)) (sym going)
-          (subst (λ n. TakenAs n bytes (Some request)) named taken);
-      answer = line ∙ ap (λ space. message_lines (canonical (confirm_of space request))) s.core
-          ∙ ap (λ b. cond b (answer_open name before (Some request)) closed_line) (sym going);
-      stands = record {
-        core = ap (λ n. n.core) is ∙ ap (λ space. after space request) s.core ∙ sym (space_after-request name before bytes request going);
-        lives = ap (λ n. n.is_open) is ∙ opened ∙ sym (all-push before (record { bytes = bytes; request = Some request }) ∙ ap (λ b. b && true) going);
-        heard = λ h. ap (λ n. n.heard) is ∙ ap (λ n. min (n + length bytes) (2 ^ 64 - 1)) (s.heard opened) ∙ unbound (place_after before + length bytes) fits ∙ sym (place-push before (record { bytes = bytes; request = Some request }));
-      };
-    }
+-- what is some is some number
+pub some_of : (o : Option ℕ) → is_some o ≡ true → (n : ℕ) × (o ≡ Some n)
+some_of None h = absurd (false≢true h)
+some_of (Some n) h = (n, refl)
 
--- an open link stops at what is no request
-pub answers_none : (name : List ℕ) (before : List Delivery) (bytes written : List ℕ) (session new : Session) → Stands name session before
-    → session.is_open ≡ true → TakenAs session.core.name bytes None → written ≡ form_line session.heard → new ≡ record session { is_open = false }
-    → Answers name before bytes written new
-answers_none name before bytes written session new s opened taken line is =
-    let going : list_all is_request before ≡ true = sym s.lives ∙ opened in
-    let named : session.core.name ≡ name = ap (λ space. space.name) s.core ∙ name_of_space name before in
-    let stopped : new.is_open ≡ false = ap (λ n. n.is_open) is in
-    record {
-      request = None;
-      taken = subst (λ b. MatchBool b (TakenAs name bytes None) (◌≡◌ {A = Option FirstRequest} None None)) (sym going)
-          (subst (λ n. TakenAs n bytes None) named taken);
-      answer = line ∙ ap form_line (s.heard opened) ∙ ap (λ b. cond b (answer_open name before None) closed_line) (sym going);
-      stands = record {
-        core = ap (λ n. n.core) is ∙ s.core ∙ sym (space_after-none name before bytes);
-        lives = stopped ∙ sym (no_more before bytes);
-        heard = λ h. absurd (false≢true (sym stopped ∙ h));
-      };
-    }
+-- what is not some is none
+pub none_of : (o : Option ℕ) → is_some o ≡ false → o ≡ None
+none_of None h = refl
+none_of (Some n) h = absurd (false≢true (sym h))
+
+module _ (name : List ℕ) (before : List Event) (session : Session) (s : Stands name session before) where
+  -- a link with a place is open
+  is_open_some : (place : ℕ) → session.heard ≡ Some place → is_open before session.opened ≡ true
+  is_open_some place some =
+      let known : Knows before session.opened (Some place) = subst (Knows before session.opened) some s.knows in
+      known.0 session.opened ∙ eq-eqb session.opened session.opened refl
+
+  -- a link without a place is not
+  pub is_open_none : (link : ℕ) → place_of session link ≡ None → is_open before link ≡ false
+  is_open_none link h =
+      some_or_none (is_open before link ≡ false) session.heard
+      (λ none. let known : Knows before session.opened None = subst (Knows before session.opened) none s.knows in known.0 link)
+      (λ place some. let known : Knows before session.opened (Some place) = subst (Knows before session.opened) some s.knows in
+      elim (eqb_tells session.opened link) as (λ _. is_open before link ≡ false) [
+        | inl told ↦ absurd (some_not_none place (sym some ∙ sym (ap (λ b. cond b session.heard None) told.0) ∙ h))
+        | inr off ↦ known.0 link ∙ off.0
+      ])
+
+  -- the place is that of the bytes that came
+  pub place_is : (place : ℕ) → session.heard ≡ Some place → place ≡ length (heard before session.opened)
+  place_is place some =
+      let known : Knows before session.opened (Some place) = subst (Knows before session.opened) some s.knows in
+      known.2
+
+  -- one link is open where the last is
+  counted_some : (place : ℕ) → session.heard ≡ Some place → counted before ≡ 1
+  counted_some place some =
+      let known : Knows before session.opened (Some place) = subst (Knows before session.opened) some s.knows in
+      omega (arith, known.1)
+
+  -- none is open where the last isn't
+  counted_none : session.heard ≡ None → counted before ≡ 0
+  counted_none none =
+      let known : Knows before session.opened None = subst (Knows before session.opened) none s.knows in
+      omega (arith, known.1)
+
+  -- a link may not open
+  refused : (count : ℕ) (written : List ℕ) → counted before ≡ count → is_full before ≡ true → written ≡ full_line count → Answers name before NewLink written session
+  refused count written c full line = record {
+    event = Full;
+    taken = ap (λ b. cond b Full Opens) (sym full);
+    answer = line ∙ ap full_line (sym c);
+    stands = stands_silent name before Full session refl refl (λ link. refl) refl s;
+  }
+
+  -- while a link is open no other opens
+  pub answers_beside : (place : ℕ) (written : List ℕ) → session.heard ≡ Some place → written ≡ full_line 1 → Answers name before NewLink written session
+  answers_beside place written some line =
+      refused 1 written (counted_some place some)
+      (ap (λ n. nat_le 1 n || nat_le (2 ^ 32 - 1) (opened before)) (counted_some place some)) line
+
+  -- without a number no link opens
+  pub answers_spent : (written : List ℕ) → session.heard ≡ None → 2 ^ 32 ≤ session.opened + 1 → written ≡ full_line 0 → Answers name before NewLink written session
+  answers_spent written none spent line =
+      refused 0 written (counted_none none)
+      (ap (λ n. nat_le 1 n || nat_le (2 ^ 32 - 1) (opened before)) (counted_none none) ∙ le-leb (2 ^ 32 - 1) (opened before) (omega (arith, spent, s.last))) line
+
+  -- the next link opens
+  pub answers_opens : (written : List ℕ) (new : Session) → session.heard ≡ None → session.opened + 1 < 2 ^ 32 → written ≡ []
+      → new ≡ record session { opened = session.opened + 1; heard = Some 0 } → Answers name before NewLink written new
+  answers_opens written new none small nothing is = record {
+    event = Opens;
+    taken = sym (ap (λ b. cond b Full Opens)
+        (ap (λ n. nat_le 1 n || nat_le (2 ^ 32 - 1) (opened before)) (counted_none none)
+        ∙ elim (leb_tells (2 ^ 32 - 1) (opened before)) as (λ _. nat_le (2 ^ 32 - 1) (opened before) ≡ false) [ inl told ↦ absurd (omega (arith, told.1, small, s.last)) | inr off ↦ off.0 ]));
+    answer = nothing;
+    stands = stands_opens name before session new none is s;
+  }
+
+  -- a delivery on a link that isn't open
+  pub answers_unheard : (link : ℕ) (bytes written : List ℕ) → place_of session link ≡ None → written ≡ closed_line link → Answers name before (Bytes link bytes) written session
+  answers_unheard link bytes written none line = record {
+    event = Closed link;
+    taken = subst (λ b. MatchBool b (IsHeard name link bytes (Closed link)) (◌≡◌ {A = Event} (Closed link) (Closed link))) (sym (is_open_none link none)) refl;
+    answer = line;
+    stands = stands_silent name before (Closed link) session refl refl (λ other. refl) refl s;
+  }
+
+  -- the end of a link that isn't open
+  pub answers_unended : (link : ℕ) (written : List ℕ) → place_of session link ≡ None → written ≡ closed_line link → Answers name before (End link) written session
+  answers_unended link written none line = record {
+    event = Closed link;
+    taken = sym (ap (λ b. cond b (Ends link) (Closed link)) (is_open_none link none));
+    answer = line;
+    stands = stands_silent name before (Closed link) session refl refl (λ other. refl) refl s;
+  }
+
+  -- the end of the open link
+  pub answers_ends : (link place : ℕ) (written : List ℕ) (new : Session) → place_of session link ≡ Some place → written ≡ [] → new ≡ record session { heard = None }
+      → Answers name before (End link) written new
+  answers_ends link place written new some nothing is =
+      let (last, here) = place_some session link place some in
+      record {
+        event = Ends link;
+        taken = sym (ap (λ b. cond b (Ends link) (Closed link)) (subst (λ n. is_open before n ≡ true) last (is_open_some place here)));
+        answer = nothing;
+        stands = stands_closes name before (Ends link) session new place here refl (ap (λ n. n ∷ []) (sym last)) (λ other. refl) refl is s;
+      }
+
+  -- the name of the space is that of the session's
+  named : session.core.name ≡ name
+  named = ap (λ space. space.name) s.core ∙ name_of_space name before
+
+  -- what the open link is taken to say
+  heard_here : (link place : ℕ) (bytes : List ℕ) (request : Option FirstRequest) → place_of session link ≡ Some place → TakenAs session.core.name bytes request
+      → MatchBool (is_open before link) (IsHeard name link bytes (heard_as link bytes request)) (heard_as link bytes request ≡ Closed link)
+  heard_here link place bytes request some taken =
+      let (last, here) = place_some session link place some in
+      subst (λ b. MatchBool b (IsHeard name link bytes (heard_as link bytes request)) (heard_as link bytes request ≡ Closed link))
+      (sym (subst (λ n. is_open before n ≡ true) last (is_open_some place here)))
+      (request, subst (λ n. TakenAs n bytes request) named taken, refl)
+
+  -- a delivery that stops the open link
+  pub answers_stops : (link place : ℕ) (bytes written : List ℕ) (new : Session) → place_of session link ≡ Some place → TakenAs session.core.name bytes None
+      → written ≡ form_line link place → new ≡ record session { heard = None } → Answers name before (Bytes link bytes) written new
+  answers_stops link place bytes written new some taken line is =
+      let (last, here) = place_some session link place some in
+      record {
+        event = Stops link;
+        taken = heard_here link place bytes None some taken;
+        answer = line ∙ ap (form_line link) (place_is place here ∙ ap (λ n. length (heard before n)) last);
+        stands = stands_closes name before (Stops link) session new place here refl (ap (λ n. n ∷ []) (sym last)) (λ other. refl) refl is s;
+      }
+
+  -- a number that fits stands below the greatest
+  unbound : (n : ℕ) → n < 2 ^ 64 → min n (2 ^ 64 - 1) ≡ n
+  unbound n h = omega arith
+
+  -- a request on the open link
+  pub answers_asks : (link place : ℕ) (bytes written : List ℕ) (request : FirstRequest) (new : Session) → place_of session link ≡ Some place → TakenAs session.core.name bytes (Some request)
+      → written ≡ message_lines link (canonical (confirm_of session.core request))
+      → new ≡ record session { core = after session.core request; heard = Some (min (place + length bytes) (2 ^ 64 - 1)) }
+      → Fits before (Bytes link bytes) → Answers name before (Bytes link bytes) written new
+  answers_asks link place bytes written request new some taken line is fits =
+      let (last, here) = place_some session link place some in
+      let exact : min (place + length bytes) (2 ^ 64 - 1) ≡ place + length bytes =
+      unbound (place + length bytes) (omega (arith, fits, place_is place here, ap (λ n. length (heard before n)) last))
+      in
+      let counted_on : new ≡ record session { core = after session.core request; heard = Some (place + length bytes) } =
+      is ∙ ap (λ (n : ℕ). record session { core = after session.core request; heard = Some n }) exact
+      in
+      record {
+        event = Asks link bytes request;
+        taken = heard_here link place bytes (Some request) some taken;
+        answer = line ∙ ap (λ space. message_lines link (canonical (confirm_of space request))) s.core;
+        stands = subst (λ n. Stands name new (before ++ Asks n bytes request ∷ [])) last (stands_asks name before bytes request session new place here counted_on s);
+      }
 
 -- a fact of a value and a fact beside it give another fact of it
 pub if_ok_both : {T E : Type 0} (r : Result T E) (P R : T → Type 0) (Q : Type 0) → IfOk r P → OnOk r Q → ((x : T) → P x → Q → R x) → IfOk r R

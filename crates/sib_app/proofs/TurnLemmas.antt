@@ -50,10 +50,10 @@ module _ (name : List ℕ) (old now next : Outside) (read : List ℕ) (left : �
           replay.reader.unread,
           record {
             entries = h.entries;
-            deliveries = h.deliveries;
+            events = h.events;
             splits = left_splits read h.entries replay.reader.unread h.allowed h.spelled h.part;
             taken = h.told;
-            given = subst (λ o. Rattle.std.specs.Io.KnownBytes.Appends old.given o (Rattle.sib_app.specs.Output.answers name h.deliveries)) (sym given) h.given;
+            given = subst (λ o. Rattle.std.specs.Io.KnownBytes.Appends old.given o (Rattle.sib_app.specs.Output.answers name h.events)) (sym given) h.given;
           },
         );
       }
@@ -143,15 +143,14 @@ turns_start name now replay is stands = record {
   counted = omega arith;
   replays = subst (λ r. Replays name now.given now.given [] r replay.session) (sym is) (record {
     entries = [];
-    deliveries = [];
+    events = [];
     allowed = tt;
     spelled = refl;
     part = inr refl;
-    opened = refl;
     waiting = refl;
     running = refl;
     taken = refl;
-    told = record { same = refl; taken = tt };
+    told = tt;
     stands = stands;
     given = Appends-nil now.given;
   });
@@ -176,10 +175,10 @@ module _ (name : List ℕ) (old mid next : Outside) where
       answered : (rest : List ℕ) → GivesAnswers name old.given mid.given e.read rest → GivesAnswers name old.given next.given e.read rest
       answered rest g = record {
         entries = g.entries;
-        deliveries = g.deliveries;
+        events = g.events;
         splits = g.splits;
         taken = g.taken;
-        given = appends_kept old.given mid.given next.given (answers name g.deliveries) g.given kept;
+        given = appends_kept old.given mid.given next.given (answers name g.events) g.given kept;
       }
 
       part : GivesPart name old.given mid.given e.read mid.left → GivesPart name old.given next.given e.read next.left
@@ -191,10 +190,10 @@ module _ (name : List ℕ) (old mid next : Outside) where
         end at_end,
         record {
           entries = g.entries;
-          deliveries = g.deliveries;
+          events = g.events;
           script = g.script;
           taken = g.taken;
-          given = appends_kept old.given mid.given next.given (answers name g.deliveries ++ last_line (space_after name g.deliveries)) g.given kept;
+          given = appends_kept old.given mid.given next.given (answers name g.events ++ last_line (space_after name g.events)) g.given kept;
         },
       )
       outcome BadScript (below, rest, some, inl dead, g) = (below, rest, some, inl dead, answered rest g)

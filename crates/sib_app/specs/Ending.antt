@@ -6,7 +6,7 @@ use Rattle.sib_io.specs.Causes.{Rose, AppendsPart}
 use Rattle.first_requests.specs.Requests.{IsIdentifier}
 use Rattle.sib_script.specs.declared.entry.Entry.{Entry}
 use Rattle.sib_script.specs.Script.{IsScript, BeginsScript, Splits}
-use Rattle.sib_app.specs.Output.{Delivery, AreTaken, space_after, answers, last_line, IsOutput}
+use Rattle.sib_app.specs.Output.{Event, AreTaken, space_after, answers, last_line, IsOutput}
 use Rattle.sib_app.specs.declared.ending.TheConstants.{INPUT_LIMIT}
 use Rattle.sib_app.specs.declared.ending.Ending.{Ending}
 use Rattle.sib_app.specs.declared.ending.Ending.TheVariants.{Done, BadScript, ReadFault, WriteFault, NoMemory, Spent}
@@ -44,18 +44,18 @@ GivesPart name old new read left = (more output : List ℕ) → left ≡ Some mo
 -- the answers to the whole entries in the bytes that were read were given, and no more
 pub record GivesAnswers (name : List ℕ) (old new : Option (List ℕ)) (read rest : List ℕ) : Type 0 where
   pub entries : List Entry
-  pub deliveries : List Delivery
+  pub events : List Event
   pub splits : Splits read entries rest
-  pub taken : AreTaken name entries deliveries
-  pub given : Appends old new (answers name deliveries)
+  pub taken : AreTaken name entries events
+  pub given : Appends old new (answers name events)
 
 -- the bytes that were read are a script, and its answers and the last line were given
 pub record GivesAll (name : List ℕ) (old new : Option (List ℕ)) (read : List ℕ) : Type 0 where
   pub entries : List Entry
-  pub deliveries : List Delivery
+  pub events : List Event
   pub script : IsScript read entries
-  pub taken : AreTaken name entries deliveries
-  pub given : Appends old new (answers name deliveries ++ last_line (space_after name deliveries))
+  pub taken : AreTaken name entries events
+  pub given : Appends old new (answers name events ++ last_line (space_after name events))
 
 -- what holds at each ending, of the bytes that were read
 abbrev pub Outcome : List ℕ → Outside → Outside → List ℕ → Ending → Type 0

@@ -1,8 +1,8 @@
 ghost use Rattle.std.specs.Prelude.{◌≡◌, ℕ, ◌+◌, ◌^◌, ◌<◌, ◌≤◌, ◌++◌, List, [], length, take, Option, None, IfOk, IfErr, OnOk};
 ghost use Rattle.sib_script.specs.declared.entry.Entry.{Entry as ScriptEntry};
 ghost use Rattle.sib_script.specs.Reading.{fresh};
-ghost use Rattle.sib_app.specs.Output.{Delivery, place_after};
-ghost use Rattle.sib_app.specs.Session.{Delivers, Stands, WritesLast};
+ghost use Rattle.sib_app.specs.Output.{Event};
+ghost use Rattle.sib_app.specs.Session.{Delivers, Fits, Stands, WritesLast};
 ghost use Rattle.sib_app.specs.declared.ending.Ending.TheVariants.{NoMemory as OutOfMemory};
 
 use crate::ending::Ending;
@@ -130,28 +130,25 @@ impl Replay {
             → Holds name old (K.given sink.old) read entry self.old.reader self.old.session
             → IfErr result (Fails name old (K.given sink.new) (K.faults sink.old) (K.faults sink.new) read) }
     {
-        match entry {
-            Entry::Bytes { link: _, bytes } => {
-                deliver(alloc, &mut self.session, sink, bytes.as_slice())
-            }
-            Entry::NewLink => Ok(()),
-            Entry::End { link: _ } => Ok(()),
-        }
+        deliver(alloc, &mut self.session, sink, &entry)
     }
 }
 
-// Answers a delivery, and writes the answer.
+// Answers an entry, and writes the answer, if there is one.
 fn deliver<K: Sink>(
     alloc: Global,
     session: &mut Session,
     sink: &mut K,
-    bytes: &[u8],
+    entry: &Entry,
 ) -> Result<(), Ending>
     ensures later { K.faults sink.old ≤ K.faults sink.new }
-    ensures delivered { (name : List ℕ) (before : List Delivery) → Stands name session.old before → place_after before + length bytes.now < 2 ^ 64
-        → Delivers name before bytes.now (K.given sink.old) (K.given sink.new) (K.faults sink.old) (K.faults sink.new) session.new result }
+    ensures delivered { (name : List ℕ) (before : List Event) → Stands name session.old before → Fits before entry.now
+        → Delivers name before entry.now (K.given sink.old) (K.given sink.new) (K.faults sink.old) (K.faults sink.new) session.new result }
 {
-    let written = session.answer(alloc, bytes)?;
+    let written = session.answer(alloc, entry)?;
+    if written.is_empty() {
+        return Ok(());
+    }
     match sink.write_all(&written) {
         Ok(()) => Ok(()),
         Err(_) => Err(Ending::WriteFault),

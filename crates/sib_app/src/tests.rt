@@ -142,12 +142,42 @@ fn an_insert_of_a_stranger_and_a_stop(rt: HostRuntime) -> Result<(), Fail> {
 fn scripts_that_are_none(rt: HostRuntime) -> Result<(), Fail> {
     let alloc = rt.alloc();
     check(alloc, &rt, "", PLAIN, 0, "= 0 0 0\n")?;
-    for script in ["+", "x", "+\n+\n", "+\n>1 01\n", "+\n>1 3\nabcX", "+\n-1\n"] {
+    for script in ["+", "x", "-", "+\n>1 01\n", ">1 3\nabcX"] {
         check(alloc, &rt, script, PLAIN, 3, "")?;
     }
     let inside = format!(in alloc; "+\n>1 182\n{JOIN}\n>1 5\nab")?;
     let joined = format!(in alloc; "<1 229\n{JOINED}\n")?;
     check(alloc, &rt, &inside, PLAIN, 3, &joined)
+}
+
+#[test]
+fn links_that_open_and_close(rt: HostRuntime) -> Result<(), Fail> {
+    let alloc = rt.alloc();
+    for (script, output) in [
+        ("+\n+\n", "!0 1 full\n= 0 0 0\n"),
+        ("+\n-1\n-1\n", "!1 0 closed\n= 0 0 0\n"),
+        ("+\n>2 0\n\n", "!2 0 closed\n= 0 0 0\n"),
+        (">1 0\n\n", "!1 0 closed\n= 0 0 0\n"),
+        ("+\n+\n-1\n+\n-2\n-3\n", "!0 1 full\n!3 0 closed\n= 0 0 0\n"),
+        (
+            "+\n>1 1\nx\n>1 1\nx\n+\n>2 1\nx\n",
+            "!1 0 form\n!1 0 closed\n!2 0 form\n= 0 0 0\n",
+        ),
+    ] {
+        check(alloc, &rt, script, PLAIN, 0, output)?;
+    }
+    Ok(())
+}
+
+#[test]
+fn one_space_for_all_links(rt: HostRuntime) -> Result<(), Fail> {
+    let alloc = rt.alloc();
+    let second = format!(in alloc; "+\n-1\n+\n>2 182\n{JOIN}\n")?;
+    let joined = format!(in alloc; "<2 229\n{JOINED}\n= 0 0 0\n")?;
+    check(alloc, &rt, &second, PLAIN, 0, &joined)?;
+    let both = format!(in alloc; "+\n>1 182\n{JOIN}\n-1\n+\n>2 385\n{INSERT}\n>2 1\nx\n")?;
+    let lines = format!(in alloc; "<1 229\n{JOINED}\n<2 231\n{INSERTED}\n!2 385 form\n= 1 1 0\n")?;
+    check(alloc, &rt, &both, PLAIN, 0, &lines)
 }
 
 #[test]

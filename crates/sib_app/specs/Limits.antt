@@ -1,0 +1,7 @@
+-- The limits of a replay, as powers of two.
+use Rattle.std.specs.Prelude.{◌≡◌, ◌^◌, refl}
+use Rattle.sib_app.specs.declared.ending.TheConstants.{INPUT_LIMIT}
+
+-- the most bytes that a command takes from its input
+pub input_limit : INPUT_LIMIT ≡ 2 ^ 40
+input_limit = refl
