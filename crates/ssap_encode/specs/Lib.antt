@@ -1,1 +1,3 @@
-pub mod Tags
+pub mod Sending
+pub mod Gathering
+pub mod GatheringLaws

@@ -1,57 +1,47 @@
-ghost use Rattle.std.specs.Prelude.{◌≡◌, ◌++◌, OnOk, codes};
-ghost use Rattle.ssap_items.specs.Canon.{escaped, attribute, element};
-ghost use Rattle.ssap_encode.specs.Tags.{tag_opening, start_tag, end_tag};
+ghost use Rattle.ssap_items.specs.Canon.{attribute, element, element_with};
 
-use crate::text::{put, put_escaped};
-use m3_terms::{NoMemory, Text};
+use crate::out::Out;
+use crate::spell::{Nothing, Raw, Spell, in_order};
+use crate::text::Escaped;
 
-/// Appends a tag as it begins, up to its attributes.
-#[tactic(auto, using(std::proofs::Common::append_assoc), unfolding(crate::specs::Tags::tag_opening))]
-pub fn open_tag(out: &mut Vec<u8>, tag: &[u8]) -> Result<(), NoMemory>
-    ensures { OnOk result (out.new.items ≡ out.old.items ++ tag_opening tag.now) }
-{
-    put(out, b"<")?;
-    put(out, tag)
+/// An attribute with the space before it: its name and its value.
+#[derive(Drop)]
+pub struct Attribute<'a>(pub &'a [u8], pub &'a [u8]);
+
+impl Spell for Attribute<'_> {
+    ghost spelling = { λ s. attribute s.0.now s.1.now };
+
+    #[tactic(auto, unfolding(ssap_items::specs::Canon::attribute))]
+    fn put<O: Out>(&self, out: &mut O) -> Result<(), O::Fault> {
+        let value = Escaped(self.1);
+        in_order!(Raw(b" "), Raw(self.0), Raw(b"=\""), value, Raw(b"\"")).put(out)
+    }
 }
 
-/// Appends a start tag without attributes.
-#[tactic(auto, using(std::proofs::Common::append_assoc), unfolding(crate::specs::Tags::start_tag))]
-pub fn put_start(out: &mut Vec<u8>, tag: &[u8]) -> Result<(), NoMemory>
-    ensures { OnOk result (out.new.items ≡ out.old.items ++ start_tag tag.now) }
-{
-    put(out, b"<")?;
-    put(out, tag)?;
-    put(out, b">")
+/// An element without attributes: its tag and its content.
+#[derive(Drop)]
+pub struct Element<'a, C>(pub &'a [u8], pub C);
+
+impl<C: Spell> Spell for Element<'_, C> {
+    ghost spelling = { λ s. element s.0.now (C.spelling s.1) };
+
+    #[tactic(auto, unfolding(ssap_items::specs::Canon::element))]
+    fn put<O: Out>(&self, out: &mut O) -> Result<(), O::Fault> {
+        ElementWith(self.0, Nothing, &self.1).put(out)
+    }
 }
 
-/// Appends an end tag.
-#[tactic(auto, using(std::proofs::Common::append_assoc), unfolding(crate::specs::Tags::end_tag))]
-pub fn put_end(out: &mut Vec<u8>, tag: &[u8]) -> Result<(), NoMemory>
-    ensures { OnOk result (out.new.items ≡ out.old.items ++ end_tag tag.now) }
-{
-    put(out, b"</")?;
-    put(out, tag)?;
-    put(out, b">")
-}
+/// An element: its tag, its attributes and its content.
+#[derive(Drop)]
+pub struct ElementWith<'a, A, C>(pub &'a [u8], pub A, pub C);
 
-/// Appends an attribute with the space before it.
-#[tactic(auto, using(std::proofs::Common::append_assoc), unfolding(ssap_items::specs::Canon::attribute))]
-pub fn put_attribute(out: &mut Vec<u8>, name: &[u8], value: &[u8]) -> Result<(), NoMemory>
-    ensures { OnOk result (out.new.items ≡ out.old.items ++ attribute name.now value.now) }
-{
-    put(out, b" ")?;
-    put(out, name)?;
-    put(out, b"=\"")?;
-    put_escaped(out, value)?;
-    put(out, b"\"")
-}
+impl<A: Spell, C: Spell> Spell for ElementWith<'_, A, C> {
+    ghost spelling = { λ s. element_with s.0.now (A.spelling s.1) (C.spelling s.2) };
 
-/// Appends an element that contains a text.
-#[tactic(auto, using(std::proofs::Common::append_assoc, crate::proofs::Parts::element_parts))]
-pub fn put_element(out: &mut Vec<u8>, tag: &[u8], text: &Text) -> Result<(), NoMemory>
-    ensures { OnOk result (out.new.items ≡ out.old.items ++ element tag.now (escaped text.now)) }
-{
-    put_start(out, tag)?;
-    put_escaped(out, text.as_bytes())?;
-    put_end(out, tag)
+    #[tactic(auto, unfolding(ssap_items::specs::Canon::element_with))]
+    fn put<O: Out>(&self, out: &mut O) -> Result<(), O::Fault> {
+        let ElementWith(tag, attributes, content) = self;
+        let start = in_order!(Raw(b"<"), Raw(*tag), attributes, Raw(b">"));
+        in_order!(start, content, Raw(b"</"), Raw(*tag), Raw(b">")).put(out)
+    }
 }

@@ -1,127 +1,104 @@
-ghost use Rattle.std.specs.Prelude.{◌≡◌, ◌++◌, OnOk, IfOk, flat_map};
-ghost use Rattle.ssap_items.specs.Canon.{element, message_word, transaction_word, heads_spelling, body_spelling, encoding_spelling, parameter_spelling, canonical};
+ghost use Rattle.ssap_items.specs.Canon.{message_word, transaction_word, heads_spelling, body_spelling, encoding_spelling, parameter_spelling, canonical};
 
-use crate::elements::{open_tag, put_attribute, put_element, put_end, put_start};
-use crate::table::put_table;
-use crate::text::{put, put_escaped};
-use crate::triples::put_triples;
-use m3_terms::{Bytes, NoMemory, Text};
+use crate::elements::{Attribute, Element, ElementWith};
+use crate::out::Out;
+use crate::spell::{Each, Spell, in_order};
+use crate::text::Escaped;
+use m3_terms::Text;
 use ssap_items::{Body, Envelope, Heads, MessageType, Param, Transaction};
-use std::alloc::Global;
 
-/// The word of a message type.
-#[tactic(auto, unfolding(ssap_items::specs::Canon::message_word))]
-fn message_of(message: MessageType) -> &'static [u8]
-    ensures { result.now ≡ message_word message }
-{
-    match message {
-        MessageType::Request => b"REQUEST",
-        MessageType::Confirm => b"CONFIRM",
-        MessageType::Indication => b"INDICATION",
+impl Spell for MessageType {
+    ghost spelling = { message_word };
+
+    #[tactic(auto, unfolding(ssap_items::specs::Canon::message_word))]
+    fn put<O: Out>(&self, out: &mut O) -> Result<(), O::Fault> {
+        match self {
+            MessageType::Request => out.put(b"REQUEST"),
+            MessageType::Confirm => out.put(b"CONFIRM"),
+            MessageType::Indication => out.put(b"INDICATION"),
+        }
     }
 }
 
-/// The word of a transaction.
-#[tactic(auto, unfolding(ssap_items::specs::Canon::transaction_word))]
-fn transaction_of(transaction: Transaction) -> &'static [u8]
-    ensures { result.now ≡ transaction_word transaction }
-{
-    match transaction {
-        Transaction::Join => b"JOIN",
-        Transaction::Leave => b"LEAVE",
-        Transaction::Insert => b"INSERT",
-        Transaction::Remove => b"REMOVE",
-        Transaction::Update => b"UPDATE",
-        Transaction::Query => b"QUERY",
-        Transaction::Subscribe => b"SUBSCRIBE",
-        Transaction::Unsubscribe => b"UNSUBSCRIBE",
+impl Spell for Transaction {
+    ghost spelling = { transaction_word };
+
+    #[tactic(auto, unfolding(ssap_items::specs::Canon::transaction_word))]
+    fn put<O: Out>(&self, out: &mut O) -> Result<(), O::Fault> {
+        match self {
+            Transaction::Join => out.put(b"JOIN"),
+            Transaction::Leave => out.put(b"LEAVE"),
+            Transaction::Insert => out.put(b"INSERT"),
+            Transaction::Remove => out.put(b"REMOVE"),
+            Transaction::Update => out.put(b"UPDATE"),
+            Transaction::Query => out.put(b"QUERY"),
+            Transaction::Subscribe => out.put(b"SUBSCRIBE"),
+            Transaction::Unsubscribe => out.put(b"UNSUBSCRIBE"),
+        }
     }
 }
 
-/// Appends an element that contains a word, in which nothing needs a reference.
-#[tactic(auto, using(std::proofs::Common::append_assoc, crate::proofs::Parts::element_parts))]
-fn put_word(out: &mut Vec<u8>, tag: &[u8], word: &[u8]) -> Result<(), NoMemory>
-    ensures { OnOk result (out.new.items ≡ out.old.items ++ element tag.now word.now) }
-{
-    put_start(out, tag)?;
-    put(out, word)?;
-    put_end(out, tag)
-}
+impl Spell for Heads {
+    ghost spelling = { heads_spelling };
 
-/// Appends the five heads.
-#[tactic(auto, using(std::proofs::Common::append_assoc))]
-fn put_heads(out: &mut Vec<u8>, heads: &Heads) -> Result<(), NoMemory>
-    ensures { OnOk result (out.new.items ≡ out.old.items ++ heads_spelling heads.now) }
-{
-    put_word(out, b"message_type", message_of(heads.message))?;
-    put_word(out, b"transaction_type", transaction_of(heads.transaction))?;
-    put_element(out, b"transaction_id", &heads.transaction_id)?;
-    put_element(out, b"node_id", &heads.node_id)?;
-    put_element(out, b"space_id", &heads.space_id)
-}
-
-/// Appends the content of a parameter.
-#[tactic(auto, unfolding(ssap_items::specs::Canon::body_spelling))]
-fn put_body(out: &mut Vec<u8>, body: &Body) -> Result<(), NoMemory>
-    ensures { OnOk result (out.new.items ≡ out.old.items ++ body_spelling body.now) }
-{
-    match body {
-        Body::Text(text) => put_escaped(out, text.as_bytes()),
-        Body::Triples(triples) => put_triples(out, triples.as_slice()),
-        Body::Table(table) => put_table(out, table),
+    #[tactic(auto, unfolding(ssap_items::specs::Canon::heads_spelling))]
+    fn put<O: Out>(&self, out: &mut O) -> Result<(), O::Fault> {
+        let message = Element(b"message_type", self.message);
+        let transaction = Element(b"transaction_type", self.transaction);
+        let id = Element(b"transaction_id", Escaped(self.transaction_id.as_bytes()));
+        let node = Element(b"node_id", Escaped(self.node_id.as_bytes()));
+        let space = Element(b"space_id", Escaped(self.space_id.as_bytes()));
+        in_order!(message, transaction, id, node, space).put(out)
     }
 }
 
-/// Appends the encoding of a parameter, where it has one.
-#[tactic(auto, using(crate::proofs::Parts::nothing), unfolding(ssap_items::specs::Canon::encoding_spelling))]
-fn put_encoding(out: &mut Vec<u8>, encoding: &Option<Text>) -> Result<(), NoMemory>
-    ensures { OnOk result (out.new.items ≡ out.old.items ++ encoding_spelling encoding.now) }
-{
-    match encoding {
-        None => Ok(()),
-        Some(encoding) => put_attribute(out, b"encoding", encoding.as_bytes()),
+/// The content of a parameter.
+impl Spell for Body {
+    ghost spelling = { body_spelling };
+
+    #[tactic(auto, unfolding(ssap_items::specs::Canon::body_spelling))]
+    fn put<O: Out>(&self, out: &mut O) -> Result<(), O::Fault> {
+        match self {
+            Body::Text(text) => Escaped(text.as_bytes()).put(out),
+            Body::Triples(triples) => triples.put(out),
+            Body::Table(table) => table.put(out),
+        }
     }
 }
 
-/// Appends a parameter.
-#[tactic(auto, using(std::proofs::Common::append_assoc, crate::proofs::Parts::element_with_parts), unfolding(ssap_items::specs::Canon::parameter_spelling))]
-fn put_parameter(out: &mut Vec<u8>, param: &Param) -> Result<(), NoMemory>
-    ensures { OnOk result (out.new.items ≡ out.old.items ++ parameter_spelling param.now) }
-{
-    open_tag(out, b"parameter")?;
-    put_attribute(out, b"name", param.name.as_bytes())?;
-    put_encoding(out, &param.encoding)?;
-    put(out, b">")?;
-    put_body(out, &param.body)?;
-    put_end(out, b"parameter")
-}
+/// The encoding of a parameter, where it has one.
+#[derive(Drop)]
+struct Encoding<'a>(&'a Option<Text>);
 
-/// Appends parameters one after another.
-fn put_each_parameter(out: &mut Vec<u8>, params: &[Param]) -> Result<(), NoMemory>
-    ensures { OnOk result (out.new.items ≡ out.old.items ++ flat_map parameter_spelling params.now) }
-{
-    for param in params {
-        put_parameter(out, param)?;
+impl Spell for Encoding<'_> {
+    ghost spelling = { λ s. encoding_spelling s.0.now };
+
+    #[tactic(auto, unfolding(ssap_items::specs::Canon::encoding_spelling))]
+    fn put<O: Out>(&self, out: &mut O) -> Result<(), O::Fault> {
+        match self.0 {
+            None => Ok(()),
+            Some(encoding) => Attribute(b"encoding", encoding.as_bytes()).put(out),
+        }
     }
-    Ok(())
 }
 
-/// Appends a message.
-#[tactic(auto, using(std::proofs::Common::append_assoc, crate::proofs::Parts::element_parts))]
-fn put_message(out: &mut Vec<u8>, envelope: &Envelope) -> Result<(), NoMemory>
-    ensures { OnOk result (out.new.items ≡ out.old.items ++ canonical envelope.now) }
-{
-    put_start(out, b"SSAP_message")?;
-    put_heads(out, &envelope.heads)?;
-    put_each_parameter(out, envelope.params.as_slice())?;
-    put_end(out, b"SSAP_message")
+impl Spell for Param {
+    ghost spelling = { parameter_spelling };
+
+    #[tactic(auto, unfolding(ssap_items::specs::Canon::parameter_spelling))]
+    fn put<O: Out>(&self, out: &mut O) -> Result<(), O::Fault> {
+        let name = Attribute(b"name", self.name.as_bytes());
+        let attributes = in_order!(name, Encoding(&self.encoding));
+        ElementWith(b"parameter", attributes, &self.body).put(out)
+    }
 }
 
-/// The canonical spelling of an envelope.
-pub fn to_bytes(alloc: Global, envelope: &Envelope) -> Result<Bytes, NoMemory>
-    ensures { IfOk result (λ bytes. bytes ≡ canonical envelope.now) }
-{
-    let mut out = Vec::new(alloc);
-    put_message(&mut out, envelope)?;
-    Ok(Bytes::from_vec(out))
+impl Spell for Envelope {
+    ghost spelling = { canonical };
+
+    #[tactic(auto, unfolding(ssap_items::specs::Canon::canonical))]
+    fn put<O: Out>(&self, out: &mut O) -> Result<(), O::Fault> {
+        let params = Each(self.params.as_slice());
+        Element(b"SSAP_message", in_order!(&self.heads, params)).put(out)
+    }
 }

@@ -1,10 +1,12 @@
 use super::*;
 use m3_terms::{Bytes, Columns, Text};
+use sib_io::{Calls, MemSink};
 use ssap_items::{
     Body, Envelope, Heads, Kind, MessageType, Param, Params, RawCell, RawRow, RawRows, RawTable,
     RawTerm, RawTriple, RawTriples, Transaction,
 };
 use std::alloc::Global;
+use std::process::Abort;
 use std::test::*;
 
 fn text(alloc: Global, bytes: &[u8]) -> Result<Text, Fail> {
@@ -34,14 +36,14 @@ fn add_text(alloc: Global, params: &mut Params, name: &[u8], bytes: &[u8]) -> Re
     add(alloc, params, name, body)
 }
 
-// The canonical spelling of a message of node k to space X.
-fn spelled(
+// A message of node k to space X.
+fn message(
     alloc: Global,
     message: MessageType,
     transaction: Transaction,
     id: &[u8],
     params: Params,
-) -> Result<Bytes, Fail> {
+) -> Result<Envelope, Fail> {
     let transaction_id = text(alloc, id)?;
     let node_id = text(alloc, b"k")?;
     let space_id = text(alloc, b"X")?;
@@ -52,7 +54,26 @@ fn spelled(
         node_id,
         space_id,
     };
-    Ok(to_bytes(alloc, &Envelope { heads, params })?)
+    Ok(Envelope { heads, params })
+}
+
+// Writes an envelope to a sink with room for these bytes alone, checks that it was given them, and answers whether the
+// write was granted.
+fn fits(rt: &impl Abort, alloc: Global, envelope: &Envelope, given: &[u8]) -> Result<bool, Fail> {
+    let mut sink = MemSink::new(alloc, given.len(), Calls::new(alloc))?;
+    let result = write(envelope, &mut sink);
+    assert!(rt; sink.bytes().as_slice() == given);
+    Ok(result.is_ok())
+}
+
+// Checks that the three ways to write an envelope give these bytes.
+fn check(rt: &impl Abort, alloc: Global, envelope: &Envelope, bytes: &[u8]) -> Result<(), Fail> {
+    assert!(rt; to_bytes(alloc, envelope)?.as_slice() == bytes);
+    assert_eq!(rt; length(envelope), bytes.len() as u64);
+    assert!(rt; fits(rt, alloc, envelope, bytes)?);
+    let half = bytes.split_at(bytes.len() / 2).0;
+    assert!(rt; !fits(rt, alloc, envelope, half)?);
+    Ok(())
 }
 
 #[test]
@@ -60,13 +81,13 @@ fn confirm_of_a_join(rt: HostRuntime) -> Result<(), Fail> {
     let alloc = rt.alloc();
     let mut params = Params::new(alloc);
     add_text(alloc, &mut params, b"status", b"m3:Success")?;
-    let bytes = spelled(alloc, MessageType::Confirm, Transaction::Join, b"1", params)?;
-    assert_eq!(rt;
-        bytes.as_slice(),
-        b"<SSAP_message><message_type>CONFIRM</message_type><transaction_type>JOIN</transaction_type><transaction_id>1</transaction_id><node_id>k</node_id><space_id>X</space_id><parameter name=\"status\">m3:Success</parameter></SSAP_message>".as_slice()
-    );
-    assert_eq!(rt; bytes.len(), 229);
-    Ok(())
+    let envelope = message(alloc, MessageType::Confirm, Transaction::Join, b"1", params)?;
+    check(
+        &rt,
+        alloc,
+        &envelope,
+        b"<SSAP_message><message_type>CONFIRM</message_type><transaction_type>JOIN</transaction_type><transaction_id>1</transaction_id><node_id>k</node_id><space_id>X</space_id><parameter name=\"status\">m3:Success</parameter></SSAP_message>",
+    )
 }
 
 fn lamp(alloc: Global) -> Result<RawTriple, Fail> {
@@ -92,19 +113,19 @@ fn confirm_of_a_query(rt: HostRuntime) -> Result<(), Fail> {
     let mut params = Params::new(alloc);
     add_text(alloc, &mut params, b"status", b"m3:Success")?;
     add_lamp(alloc, &mut params, b"results")?;
-    let bytes = spelled(
+    let envelope = message(
         alloc,
         MessageType::Confirm,
         Transaction::Query,
         b"3",
         params,
     )?;
-    assert_eq!(rt;
-        bytes.as_slice(),
-        b"<SSAP_message><message_type>CONFIRM</message_type><transaction_type>QUERY</transaction_type><transaction_id>3</transaction_id><node_id>k</node_id><space_id>X</space_id><parameter name=\"status\">m3:Success</parameter><parameter name=\"results\"><triple_list><triple><subject type=\"uri\">lamp</subject><predicate>state</predicate><object type=\"literal\">on</object></triple></triple_list></parameter></SSAP_message>".as_slice()
-    );
-    assert_eq!(rt; bytes.len(), 408);
-    Ok(())
+    check(
+        &rt,
+        alloc,
+        &envelope,
+        b"<SSAP_message><message_type>CONFIRM</message_type><transaction_type>QUERY</transaction_type><transaction_id>3</transaction_id><node_id>k</node_id><space_id>X</space_id><parameter name=\"status\">m3:Success</parameter><parameter name=\"results\"><triple_list><triple><subject type=\"uri\">lamp</subject><predicate>state</predicate><object type=\"literal\">on</object></triple></triple_list></parameter></SSAP_message>",
+    )
 }
 
 fn add_cell(alloc: Global, row: &mut RawRow, name: &[u8], value: RawTerm) -> Result<(), Fail> {
@@ -154,19 +175,19 @@ fn indication_with_tables(rt: HostRuntime) -> Result<(), Fail> {
     add_text(alloc, &mut params, b"subscription_id", b"1")?;
     add_text(alloc, &mut params, b"ind_sequence", b"1")?;
     add_tables(alloc, &mut params)?;
-    let bytes = spelled(
+    let envelope = message(
         alloc,
         MessageType::Indication,
         Transaction::Subscribe,
         b"3",
         params,
     )?;
-    assert_eq!(rt;
-        bytes.as_slice(),
-        b"<SSAP_message><message_type>INDICATION</message_type><transaction_type>SUBSCRIBE</transaction_type><transaction_id>3</transaction_id><node_id>k</node_id><space_id>X</space_id><parameter name=\"subscription_id\">1</parameter><parameter name=\"ind_sequence\">1</parameter><parameter name=\"new_results\"><sparql xmlns=\"http://www.w3.org/2005/sparql-results#\"><head><variable name=\"s\"/><variable name=\"n\"/></head><results><result><binding name=\"s\"><uri>lamp</uri></binding><binding name=\"n\"><literal>L</literal></binding></result></results></sparql></parameter><parameter name=\"obsolete_results\"><sparql xmlns=\"http://www.w3.org/2005/sparql-results#\"><head><variable name=\"s\"/><variable name=\"n\"/></head><results><result><binding name=\"s\"><uri>lamp</uri></binding></result></results></sparql></parameter></SSAP_message>".as_slice()
-    );
-    assert_eq!(rt; bytes.len(), 810);
-    Ok(())
+    check(
+        &rt,
+        alloc,
+        &envelope,
+        b"<SSAP_message><message_type>INDICATION</message_type><transaction_type>SUBSCRIBE</transaction_type><transaction_id>3</transaction_id><node_id>k</node_id><space_id>X</space_id><parameter name=\"subscription_id\">1</parameter><parameter name=\"ind_sequence\">1</parameter><parameter name=\"new_results\"><sparql xmlns=\"http://www.w3.org/2005/sparql-results#\"><head><variable name=\"s\"/><variable name=\"n\"/></head><results><result><binding name=\"s\"><uri>lamp</uri></binding><binding name=\"n\"><literal>L</literal></binding></result></results></sparql></parameter><parameter name=\"obsolete_results\"><sparql xmlns=\"http://www.w3.org/2005/sparql-results#\"><head><variable name=\"s\"/><variable name=\"n\"/></head><results><result><binding name=\"s\"><uri>lamp</uri></binding></result></results></sparql></parameter></SSAP_message>",
+    )
 }
 
 fn add_escaped(alloc: Global, params: &mut Params) -> Result<(), Fail> {
@@ -186,16 +207,57 @@ fn references(rt: HostRuntime) -> Result<(), Fail> {
     let alloc = rt.alloc();
     let mut params = Params::new(alloc);
     add_escaped(alloc, &mut params)?;
-    let bytes = spelled(
+    let envelope = message(
         alloc,
         MessageType::Request,
         Transaction::Leave,
         b"&",
         params,
     )?;
-    assert_eq!(rt;
-        bytes.as_slice(),
-        b"<SSAP_message><message_type>REQUEST</message_type><transaction_type>LEAVE</transaction_type><transaction_id>&amp;</transaction_id><node_id>k</node_id><space_id>X</space_id><parameter name=\"a&quot;b\" encoding=\"e\">x &amp; y &lt; z &gt; &#9;&#10;&#13;'</parameter></SSAP_message>".as_slice()
-    );
+    check(
+        &rt,
+        alloc,
+        &envelope,
+        b"<SSAP_message><message_type>REQUEST</message_type><transaction_type>LEAVE</transaction_type><transaction_id>&amp;</transaction_id><node_id>k</node_id><space_id>X</space_id><parameter name=\"a&quot;b\" encoding=\"e\">x &amp; y &lt; z &gt; &#9;&#10;&#13;'</parameter></SSAP_message>",
+    )
+}
+
+// A message with two long texts, the second with a reference.
+fn long_message(alloc: Global) -> Result<Envelope, Fail> {
+    let mut params = Params::new(alloc);
+    let plain = vec![in alloc; b'a'; 9000]?;
+    add_text(alloc, &mut params, b"first", plain.as_slice())?;
+    let mut ended = vec![in alloc; b'b'; 5000]?;
+    ended.push(b'>')?;
+    add_text(alloc, &mut params, b"second", ended.as_slice())?;
+    message(alloc, MessageType::Request, Transaction::Join, b"1", params)
+}
+
+// Writes an envelope to a sink whose call of this number fails, and answers how many bytes the sink was given.
+fn given_until(
+    rt: &impl Abort,
+    alloc: Global,
+    envelope: &Envelope,
+    call: usize,
+) -> Result<usize, Fail> {
+    let bytes = to_bytes(alloc, envelope)?;
+    let mut failing = Calls::new(alloc);
+    failing.push(call)?;
+    let mut sink = MemSink::new(alloc, bytes.len(), failing)?;
+    let result = write(envelope, &mut sink);
+    let given = sink.bytes();
+    assert_eq!(rt; result.is_ok(), given.len() == bytes.len());
+    assert!(rt; bytes.as_slice().starts_with(given.as_slice()));
+    Ok(given.len())
+}
+
+// What the sink was given where its first call fails, or its second, and so on. The fifth is never made.
+#[test]
+fn a_sink_is_given_few_large_pieces(rt: HostRuntime) -> Result<(), Fail> {
+    let alloc = rt.alloc();
+    let envelope = long_message(alloc)?;
+    for (call, given) in [(1, 0), (2, 4096), (3, 9191), (4, 13287), (5, 14259)] {
+        assert_eq!(rt; given_until(&rt, alloc, &envelope, call)?, given);
+    }
     Ok(())
 }

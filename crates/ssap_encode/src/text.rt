@@ -1,14 +1,20 @@
-ghost use Rattle.std.specs.Prelude.{◌≡◌, ◌++◌, ◌∷◌, [], OnOk, MatchOption};
+ghost use Rattle.std.specs.Prelude.{◌≡◌, ◌∷◌, [], MatchOption};
 ghost use Rattle.ssap_items.specs.Canon.{escaped_byte, escaped};
+ghost use Rattle.ssap_encode.specs.Sending.{Sends};
 
-use m3_terms::NoMemory;
+use crate::out::Out;
+use crate::spell::{Raw, Spell, in_order};
 
-/// Appends bytes as they are.
-pub fn put(out: &mut Vec<u8>, bytes: &[u8]) -> Result<(), NoMemory>
-    ensures { OnOk result (out.new.items ≡ out.old.items ++ bytes.now) }
-{
-    out.extend_from_slice(bytes)?;
-    Ok(())
+/// A text, or the value of an attribute, with its references.
+#[derive(Drop)]
+pub struct Escaped<'a>(pub &'a [u8]);
+
+impl Spell for Escaped<'_> {
+    ghost spelling = { λ s. escaped s.0.now };
+
+    fn put<O: Out>(&self, out: &mut O) -> Result<(), O::Fault> {
+        put_escaped(out, self.0)
+    }
 }
 
 /// The reference that stands for a byte, or `None` where the byte stands for itself.
@@ -27,17 +33,16 @@ fn reference_of(byte: u8) -> Option<&'static [u8]>
     }
 }
 
-/// Appends a text with its references. What needs none goes out in runs.
-pub fn put_escaped(out: &mut Vec<u8>, text: &[u8]) -> Result<(), NoMemory>
-    ensures { OnOk result (out.new.items ≡ out.old.items ++ escaped text.now) }
+// Puts a text with its references. What needs none goes out in runs.
+fn put_escaped<O: Out>(out: &mut O, text: &[u8]) -> Result<(), O::Fault>
+    ensures { Sends O.puts O.stops out.old out.new result (escaped text.now) }
 {
     let mut from = 0;
     for (at, byte) in text.iter().enumerate() {
         if let Some(reference) = reference_of(*byte) {
-            put(out, &text[from..at])?;
-            put(out, reference)?;
+            in_order!(Raw(&text[from..at]), Raw(reference)).put(out)?;
             from = at + 1;
         }
     }
-    put(out, &text[from..])
+    out.put(&text[from..])
 }
