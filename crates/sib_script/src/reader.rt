@@ -131,7 +131,6 @@ impl ScriptReader {
 
     /// Says that no byte follows. What was fed is a script exactly where it answers `Ok`.
     pub fn end(&mut self) -> Result<(), ScriptFault>
-        requires { self.old.waiting ≡ None }
         ensures { Ends self.old result self.new }
     {
         if !self.stopped && matches!(self.step, Step::Start) {
