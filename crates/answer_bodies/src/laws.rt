@@ -1,0 +1,31 @@
+//! Laws of reading and writing answers. Each function does nothing: its contract is the law.
+
+ghost use Rattle.answer_bodies.specs.Laws.{BodiesAreReadBack, ReadsOnce, AnswersAreSound, SoundIsFull, CausesRefuse};
+ghost use Rattle.answer_bodies.specs.Examples.{OneTriple, NoDouble, NoBlank, UnboundCell, NoUnknown};
+
+/// A sound answer may be written, and is read back from its body.
+pub fn bodies_are_read_back()
+    ensures full { SoundIsFull }
+    ensures back { BodiesAreReadBack }
+{}
+
+/// A body is read as at most one answer, which is sound.
+pub fn answers_are_told()
+    ensures once { ReadsOnce }
+    ensures sound { AnswersAreSound }
+{}
+
+/// Where a cause holds, a body is read as no answer.
+pub fn causes_refuse()
+    ensures { CausesRefuse }
+{}
+
+/// Small bodies: one triple, and beside it the same triple twice or with a blank node; a row with an unbound cell, and
+/// beside it the same row without its column.
+pub fn worked_examples()
+    ensures one_triple { OneTriple }
+    ensures no_double { NoDouble }
+    ensures no_blank { NoBlank }
+    ensures unbound_cell { UnboundCell }
+    ensures no_unknown { NoUnknown }
+{}

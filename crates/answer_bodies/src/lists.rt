@@ -1,0 +1,33 @@
+//! Lists in order, and doubles in them.
+ghost use Rattle.std.specs.Prelude.{◌≡◌, IfOk, MatchOption, IsTrue, ◌↔◌};
+ghost use Rattle.std.specs.List.{IsDistinct};
+ghost use Rattle.std.specs.Ordering.{eq_by_cmp};
+ghost use Rattle.m3_terms.specs.Order.{text_eq};
+ghost use Rattle.answer_bodies.specs.Lists.{IsOrdered};
+
+use m3_terms::{Items, NoMemory, Text};
+
+/// The items in their order, or None exactly where one is doubled.
+pub fn ordered<T: Ord + Drop>(items: Items<T>) -> Result<Option<Items<T>>, NoMemory>
+    ensures { IfOk result (λ sorted. MatchOption sorted (¬ (IsDistinct (eq_by_cmp T.cmp) items)) (IsOrdered T.cmp items)) }
+{
+    let mut items = items.into_vec();
+    items.sort()?;
+    if items.as_slice().is_sorted_by(|a, b| a.cmp(b).is_lt()) {
+        Ok(Some(Items::from_vec(items)))
+    } else {
+        Ok(None)
+    }
+}
+
+/// Whether no text is doubled.
+pub fn are_distinct(texts: &[Text]) -> bool
+    ensures { IsTrue result ↔ IsDistinct text_eq texts.now }
+{
+    for (i, text) in texts.iter().enumerate() {
+        if texts[..i].contains(text) {
+            return false;
+        }
+    }
+    true
+}
