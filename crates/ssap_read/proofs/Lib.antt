@@ -1,0 +1,16 @@
+pub mod Tellings
+pub mod Tagged
+pub mod Words
+pub mod Texts
+pub mod Attributed
+pub mod TypeAttribute
+pub mod Each
+pub mod Around
+pub mod Typed
+pub mod TripleParts
+pub mod Blank
+pub mod TableParts
+pub mod ParameterParts
+pub mod Items
+pub mod Gathering
+pub mod Messaging
