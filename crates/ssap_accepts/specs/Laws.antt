@@ -1,0 +1,13 @@
+-- The machine and the grammar say the same of which bytes are a message.
+use Rattle.std.specs.Prelude.{ℕ, List}
+use Rattle.ssap_items.specs.declared.envelope.Envelope.{Envelope}
+use Rattle.ssap_grammar.specs.Message.{Spells}
+use Rattle.ssap_machine.specs.Machine.{IsMessage}
+
+-- what spells an envelope the machine accepts as a message
+abbrev pub AcceptsSpelled : Type 0
+AcceptsSpelled = (bytes : List ℕ) (envelope : Envelope) → Spells bytes envelope → IsMessage bytes
+
+-- and what it accepts spells an envelope
+abbrev pub AcceptedSpells : Type 0
+AcceptedSpells = (bytes : List ℕ) → IsMessage bytes → (envelope : Envelope) × Spells bytes envelope

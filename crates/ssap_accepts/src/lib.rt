@@ -1,0 +1,6 @@
+//! The machine of messages accepts just the messages of the grammar.
+#![tactic(auto)]
+
+mod laws;
+
+pub use laws::machine_reads_messages;

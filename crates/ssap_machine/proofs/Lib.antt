@@ -1,0 +1,14 @@
+pub mod Heights
+pub mod Choosing
+pub mod Encodings
+pub mod Runs
+pub mod Facts
+pub mod Steps
+pub mod Texts
+pub mod Whites
+pub mod Advancing
+pub mod Spare
+pub mod Lexemes
+pub mod Apart
+pub mod Walking
+pub mod Completions

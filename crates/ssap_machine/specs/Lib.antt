@@ -1,0 +1,9 @@
+pub mod Words
+pub mod Options
+pub mod Machine
+pub mod Heights
+pub mod Choosing
+pub mod CharacterFronts
+pub mod Plain
+pub mod Progress
+pub mod Spare
