@@ -1,0 +1,6 @@
+-- What a call does tells what the decoder stands for then.
+use Rattle.ssap_decode.proofs.Standing.{fed_stand}
+use Rattle.ssap_decode.proofs.decoder.Decoder.feed.Goals as goal
+
+pub returns-clause-stands : goal.returns-clause-stands
+returns-clause-stands c = fed_stand c.args.self.now c.take.new.self c.args.bytes.now c.take.result c.take.ensures.ok c.take.ensures.refused
