@@ -1,0 +1,6 @@
+mod Plain
+mod Sent
+mod Found
+mod Onces
+mod ExampleShapes
+mod Somes

@@ -1,0 +1,10 @@
+pub mod Table
+pub mod Templates
+pub mod Updates
+pub mod Queries
+pub mod Ranks
+pub mod Shape
+pub mod Plain
+pub mod Replies
+pub mod Laws
+pub mod Examples

@@ -1,0 +1,39 @@
+ghost use Rattle.std.specs.Prelude.{◌≡◌};
+ghost use Rattle.ssap_shape.specs.Replies.{status_word};
+
+/// How a request went, as its confirm tells.
+#[derive(Clone, Copy, Debug, PartialEq, Eq)]
+pub enum Status {
+    /// The request was done.
+    Success,
+    /// The node isn't joined.
+    AccessDenied,
+    /// The request is for more than a limit allows.
+    OutOfResources,
+    /// The request is for what isn't built.
+    NotImplemented,
+    /// The request is for another space, or can't be done for what it says.
+    Request,
+    /// A parameter is missing.
+    Incomplete,
+    /// A parameter is doubled, unknown or filled wrongly.
+    Syntax,
+}
+
+impl Status {
+    /// The status as it is written in a message.
+    #[tactic(auto, unfolding(crate::specs::Replies::status_word))]
+    pub fn as_bytes(self) -> &'static [u8]
+        ensures { result.now ≡ status_word self }
+    {
+        match self {
+            Status::Success => b"m3:Success",
+            Status::AccessDenied => b"m3:SIB.Error.AccessDenied",
+            Status::OutOfResources => b"m3:SIB.Failure.OutOfResources",
+            Status::NotImplemented => b"m3:SIB.Failure.NotImplemented",
+            Status::Request => b"m3:KP.Error.Request",
+            Status::Incomplete => b"m3:KP.Error.Message.Incomplete",
+            Status::Syntax => b"m3:KP.Error.Message.Syntax",
+        }
+    }
+}
