@@ -1,5 +1,2 @@
-pub mod Escaped
-pub mod Tagged
-pub mod Objects
-pub mod Spelled
+pub mod Asking
 pub mod Taken

@@ -1,86 +1,79 @@
--- What a delivery is taken as.
-use Rattle.std.proofs.Common.{◌≡◌, ℕ, List, length, Option, Some, None, refl, ap, sym, ◌∙◌, subst, arith}
-use Rattle.std.proofs.lemmas.Option.{none-some, same_Some}
+-- A message is taken as one thing.
+use Rattle.std.proofs.Common.{◌≡◌, inl, inr, ℕ, List, [], ◌∷◌, Some, None, refl, sym, ◌∙◌, ap, subst}
+use Rattle.std.specs.Prelude.{Option}
+use Rattle.m3_terms.proofs.Lists.{heads_same}
 use Rattle.m3_terms.specs.declared.term.Term.{Term}
-use Rattle.m3_terms.specs.declared.term.Term.TheVariants.{Uri, Literal}
 use Rattle.m3_terms.specs.declared.triple.Triple.{Triple}
-use Rattle.ssap_items.specs.Canon.{escaped, attribute, kind_word, canonical}
+use Rattle.ssap_items.specs.declared.heads.Transaction as transactions
+use Rattle.ssap_items.specs.declared.body.Kind as kind
+use Rattle.ssap_items.specs.declared.body.RawTerm.{RawTerm}
+use Rattle.ssap_items.specs.declared.body.RawTriple.{RawTriple}
+use Rattle.ssap_items.specs.declared.envelope.Param.{Param}
+use Rattle.ssap_items.specs.declared.envelope.Envelope.{Envelope}
+use Rattle.session_core.specs.Space.{transaction_of}
 use Rattle.session_core.specs.declared.request.FirstAsk.{FirstAsk}
 use Rattle.session_core.specs.declared.request.FirstAsk.TheVariants.{Join, Insert}
 use Rattle.session_core.specs.declared.request.FirstRequest.{FirstRequest}
-use Rattle.first_requests.specs.Requests.{raw_term, envelope_of, IsNamed, IsAsk, IsFirst, TakenAs}
-use Rattle.first_requests.specs.Loose.{object_tag}
-use Rattle.first_requests.specs.Shown.{ShowsAsk, Shows}
-use Rattle.first_requests.proofs.Escaped.{escaped_same}
-use Rattle.first_requests.proofs.Spelled.{shows}
+use Rattle.first_requests.specs.Requests.{StandsFor, StandsForTriple, IsGraph, AskFor, IsFirst, TakenAs}
+use Rattle.first_requests.proofs.Asking.{bodies_same}
 
--- ---- what loose reading gives
+-- a uri is no literal
+kinds_apart : kind.TheVariants.Uri ≡ kind.TheVariants.Literal → ⊥
+kinds_apart e = cc
 
--- each request that the bytes show is found
-abbrev FindsOnly : List ℕ → List ℕ → Option FirstRequest → Type 0
-FindsOnly space bytes found = (request : FirstRequest) → IsFirst space request → Shows bytes request → found ≡ Some request
+-- a spelled term stands for one term
+terms_same : (raw : RawTerm) (a b : Term) → StandsFor raw a → StandsFor raw b → a ≡ b
+terms_same raw a b (inl x) (inl y) = x.1 ∙ sym y.1
+terms_same raw a b (inl x) (inr y) = absurd (kinds_apart (sym x.0 ∙ y.0))
+terms_same raw a b (inr x) (inl y) = absurd (kinds_apart (sym y.0 ∙ x.0))
+terms_same raw a b (inr x) (inr y) = x.1 ∙ sym y.1
 
-is_found : (space bytes : List ℕ) (found : Option FirstRequest) → FindsOnly space bytes found → (request : FirstRequest) → IsFirst space request → bytes ≡ canonical (envelope_of request) → found ≡ Some request
-is_found space bytes found only request first e = only request first (subst (λ (spelled : List ℕ). Shows spelled request) (sym e) (shows request))
+-- triples of the same terms are the same
+triple_of : (s p o t q r : Term) → s ≡ t → p ≡ q → o ≡ r
+    → ◌≡◌ {A = Triple} (record { subject = s; predicate = p; object = o }) (record { subject = t; predicate = q; object = r })
+triple_of s p o t q r a b c = cc
 
--- where none is found the bytes spell none
-pub spells_none : (space bytes : List ℕ) (found : Option FirstRequest) → found ≡ None → FindsOnly space bytes found → TakenAs space bytes None
-spells_none space bytes found none only request first e = none-some request (sym none ∙ is_found space bytes found only request first e)
+-- a spelled triple stands for one triple
+triples_same : (raw : RawTriple) (a b : Triple) → StandsForTriple raw a → StandsForTriple raw b → a ≡ b
+triples_same raw a b x y =
+    triple_of a.subject a.predicate a.object b.subject b.predicate b.object (x.subject.1 ∙ sym y.subject.1)
+    (x.predicate.0 ∙ sym y.predicate.0) (terms_same raw.object a.object b.object x.object y.object)
 
--- where the one that is found is spelled otherwise the bytes spell none
-pub spells_other : (space bytes spelled : List ℕ) (found : Option FirstRequest) (request : FirstRequest) → found ≡ Some request → spelled ≡ canonical (envelope_of request) → (spelled ≡ bytes → ⊥) → FindsOnly space bytes found → TakenAs space bytes None
-spells_other space bytes spelled found request some is other only same first e =
-    let one : request ≡ same = same_Some request same (sym some ∙ is_found space bytes found only same first e) in
-    other (is ∙ ap (λ (r : FirstRequest). canonical (envelope_of r)) one ∙ sym e)
+-- a graph has one triple
+graphs_same : (param : Param) (a b : Triple) → IsGraph param a → IsGraph param b → a ≡ b
+graphs_same param a b x y =
+    let same : x.raw ≡ y.raw = heads_same x.raw y.raw [] [] (bodies_same (x.raw ∷ []) (y.raw ∷ []) (sym x.body ∙ y.body)) in
+    triples_same y.raw a b (subst (λ r. StandsForTriple r a) same x.stands) y.stands
 
--- ---- two requests that the same bytes show are one
+-- to join is not to insert
+join_apart : transactions.TheVariants.Join ≡ transactions.TheVariants.Insert → ⊥
+join_apart e = cc
 
-same_name : (a b : Term) → IsNamed a → IsNamed b → escaped (raw_term a).text ≡ escaped (raw_term b).text → a ≡ b
-same_name (Uri a) (Uri b) p q e = ap Uri (escaped_same a b e)
-same_name (Uri a) (Literal b) p q e = absurd q
-same_name (Literal a) b p q e = absurd p
+-- parameters ask for one thing of each kind
+asks_same : (params : List Param) (a b : FirstAsk) → transaction_of a ≡ transaction_of b → AskFor params a → AskFor params b → a ≡ b
+asks_same params Join Join e x y = refl
+asks_same params Join (Insert triple) e x y = absurd (join_apart e)
+asks_same params (Insert triple) Join e x y = absurd (join_apart (sym e))
+asks_same params (Insert a) (Insert b) e x y =
+    let same = heads_same x.0 y.0 x.1 y.1 (sym x.2 ∙ y.2) in
+    ap Insert (graphs_same y.0 a b (subst (λ p. IsGraph p a) same x.3) y.3)
 
-same_object : (a b : Term) → object_tag a ≡ object_tag b → escaped (raw_term a).text ≡ escaped (raw_term b).text → a ≡ b
-unfolding object_tag attribute kind_word escaped
-same_object (Uri a) (Uri b) tag e = ap Uri (escaped_same a b e)
-same_object (Uri a) (Literal b) tag e = absurd (omega (arith, ap length tag))
-same_object (Literal a) (Uri b) tag e = absurd (omega (arith, ap length tag))
-same_object (Literal a) (Literal b) tag e = ap Literal (escaped_same a b e)
+-- requests of the same parts are the same
+request_of : (i n s j m t : List ℕ) (a b : FirstAsk) → i ≡ j → n ≡ m → s ≡ t → a ≡ b
+    → ◌≡◌ {A = FirstRequest} (record { transaction_id = i; node_id = n; space_id = s; ask = a })
+    (record { transaction_id = j; node_id = m; space_id = t; ask = b })
+request_of i n s j m t a b e f g h = cc
 
-abbrev triple_of : Term → Term → Term → Triple
-triple_of subject predicate object = record { subject = subject; predicate = predicate; object = object }
+-- a message is one request
+first_once : (space : List ℕ) (envelope : Envelope) (a b : FirstRequest) → IsFirst space envelope a → IsFirst space envelope b → a ≡ b
+first_once space envelope a b x y =
+    request_of a.transaction_id a.node_id a.space_id b.transaction_id b.node_id b.space_id a.ask b.ask
+    (x.transaction_id ∙ sym y.transaction_id) (x.node_id ∙ sym y.node_id) (x.space_id ∙ sym y.space_id)
+    (asks_same envelope.params a.ask b.ask (sym x.transaction ∙ y.transaction) x.ask y.ask)
 
-same_triple : (a b : Triple) → a.subject ≡ b.subject → a.predicate ≡ b.predicate → a.object ≡ b.object → a ≡ b
-same_triple a b s p o =
-    let same : triple_of a.subject a.predicate a.object ≡ triple_of b.subject b.predicate b.object = cc in same
-
-abbrev request_of : List ℕ → List ℕ → List ℕ → FirstAsk → FirstRequest
-request_of transaction node space ask = record { transaction_id = transaction; node_id = node; space_id = space; ask = ask }
-
-same_request : (a b : FirstRequest) → a.transaction_id ≡ b.transaction_id → a.node_id ≡ b.node_id → a.space_id ≡ b.space_id → a.ask ≡ b.ask → a ≡ b
-same_request a b t n s k =
-    let same : request_of a.transaction_id a.node_id a.space_id a.ask ≡ request_of b.transaction_id b.node_id b.space_id b.ask = cc in same
-
-same_ask : (a b : FirstAsk) (transaction params : List ℕ) → IsAsk a → IsAsk b → ShowsAsk transaction params a → ShowsAsk transaction params b → a ≡ b
-same_ask Join Join transaction params p q s t = refl
-same_ask Join (Insert b) transaction params p q s t = absurd (omega (arith, ap length (sym s ∙ t.0)))
-same_ask (Insert a) Join transaction params p q s t = absurd (omega (arith, ap length (sym t ∙ s.0)))
-same_ask (Insert a) (Insert b) transaction params p q s t = ap Insert (same_triple a b
-    (same_name a.subject b.subject p.0 q.0 (sym s.1.subject ∙ t.1.subject))
-    (same_name a.predicate b.predicate p.1 q.1 (sym s.1.predicate ∙ t.1.predicate))
-    (same_object a.object b.object (sym s.1.tag ∙ t.1.tag) (sym s.1.object ∙ t.1.object)))
-
-same_shown : (space bytes : List ℕ) (a b : FirstRequest) → IsFirst space a → IsFirst space b → Shows bytes a → Shows bytes b → a ≡ b
-same_shown space bytes a b p q s t = same_request a b
-    (escaped_same a.transaction_id b.transaction_id (sym s.transaction_id ∙ t.transaction_id))
-    (escaped_same a.node_id b.node_id (sym s.node_id ∙ t.node_id))
-    (p.to ∙ sym q.to)
-    (same_ask a.ask b.ask _ _ p.ask q.ask s.ask t.ask)
-
--- a delivery is taken as at most one thing
-pub taken_once_law : (space bytes : List ℕ) (a b : Option FirstRequest) → TakenAs space bytes a → TakenAs space bytes b → a ≡ b
-taken_once_law space bytes None None p q = refl
-taken_once_law space bytes None (Some b) p q = absurd (p b q.0 q.1)
-taken_once_law space bytes (Some a) None p q = absurd (q a p.0 p.1)
-taken_once_law space bytes (Some a) (Some b) p q =
-    ap Some (same_shown space bytes a b p.0 q.0 (subst (λ (spelled : List ℕ). Shows spelled a) (sym p.1) (shows a)) (subst (λ (spelled : List ℕ). Shows spelled b) (sym q.1) (shows b)))
+-- and is taken as one thing
+pub taken_once : (space : List ℕ) (envelope : Envelope) (a b : Option FirstRequest) → TakenAs space envelope a → TakenAs space envelope b → a ≡ b
+taken_once space envelope None None x y = refl
+taken_once space envelope None (Some b) x y = absurd (x b y)
+taken_once space envelope (Some a) None x y = absurd (y a x)
+taken_once space envelope (Some a) (Some b) x y = ap Some (first_once space envelope a b x y)

@@ -1,58 +1,45 @@
-ghost use Rattle.std.specs.Prelude.{◌≡◌, IfOk, IfSome, Some};
-ghost use Rattle.first_requests.specs.Requests.{IsFirst, TakenAs};
-ghost use Rattle.first_requests.specs.Shown.{Shows};
+ghost use Rattle.std.specs.Prelude.{◌≡◌, IsTrue, ◌↔◌};
+ghost use Rattle.first_requests.specs.Requests.{AreHeads, IsIdentifier, TakenAs};
 
 use crate::ask::ask;
-use crate::envelope::request_envelope;
-use crate::marks::{element, into_element};
-use crate::terms::identifier;
-use m3_terms::{NoMemory, Text};
+use m3_terms::Text;
 use session_core::FirstRequest;
-use ssap_encode::to_bytes;
-use std::alloc::Global;
+use ssap_items::{Envelope, Heads, MessageType};
 
-/// A request to this space whose parts the bytes have, if one is to be found. Its spelling may be another.
-fn read_loosely(alloc: Global, space: &Text, bytes: &[u8]) -> Result<Option<FirstRequest>, NoMemory>
-    ensures some { IfOk result (λ found. IfSome found (IsFirst space.now)) }
-    ensures only { (request : FirstRequest) → IsFirst space.now request → Shows bytes.now request → IfOk result (λ found. found ≡ Some request) }
+/// The most bytes that an identifier may have.
+const IDENTIFIER_LIMIT: usize = 1024;
+
+/// Whether a text is an identifier.
+pub fn is_identifier(text: &Text) -> bool
+    ensures { IsTrue result ↔ IsIdentifier text.now }
 {
-    let (_, rest) = element(into_element(bytes));
-    let (transaction, rest) = element(rest);
-    let (transaction_id, rest) = element(rest);
-    let (node_id, rest) = element(rest);
-    let (_, params) = element(rest);
-    let Some(transaction_id) = identifier(alloc, transaction_id)? else {
-        return Ok(None);
-    };
-    let Some(node_id) = identifier(alloc, node_id)? else {
-        return Ok(None);
-    };
-    let Some(ask) = ask(alloc, transaction, params)? else {
-        return Ok(None);
-    };
-    Ok(Some(FirstRequest {
-        transaction_id,
-        node_id,
-        space_id: space.copy()?,
-        ask,
-    }))
+    let bytes = text.as_bytes();
+    !bytes.is_empty() && bytes.len() <= IDENTIFIER_LIMIT
 }
 
-/// The request of this space whose canonical spelling the bytes are, or `None` where they are none's.
-pub fn read_request(
-    alloc: Global,
-    space: &Text,
-    bytes: &[u8],
-) -> Result<Option<FirstRequest>, NoMemory>
-    ensures { IfOk result (TakenAs space.now bytes.now) }
+/// Whether the heads are those of a request to this space, under identifiers.
+fn are_heads(space: &Text, heads: &Heads) -> bool
+    ensures { IsTrue result ↔ AreHeads space.now heads.now }
 {
-    let Some(request) = read_loosely(alloc, space, bytes)? else {
-        return Ok(None);
-    };
-    let spelled = to_bytes(alloc, &request_envelope(alloc, &request)?)?;
-    if spelled.as_slice() == bytes {
-        Ok(Some(request))
-    } else {
-        Ok(None)
+    heads.message == MessageType::Request
+        && is_identifier(&heads.transaction_id)
+        && is_identifier(&heads.node_id)
+        && heads.space_id.as_bytes() == space.as_bytes()
+}
+
+/// The request to this space that a message is, or `None` where it is none.
+pub fn request_of(space: &Text, envelope: Envelope) -> Option<FirstRequest>
+    ensures { TakenAs space.now envelope result }
+{
+    let Envelope { heads, params } = envelope;
+    if !are_heads(space, &heads) {
+        return None;
     }
+    let ask = ask(heads.transaction, params)?;
+    Some(FirstRequest {
+        transaction_id: heads.transaction_id,
+        node_id: heads.node_id,
+        space_id: heads.space_id,
+        ask,
+    })
 }

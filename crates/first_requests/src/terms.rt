@@ -1,49 +1,9 @@
-ghost use Rattle.std.specs.Prelude.{◌≡◌, ◌⊎◌, List, ℕ, IfOk, IfSome, Some, SomeIff, IsTrue, ◌↔◌, codes, ◌++◌};
-ghost use Rattle.m3_terms.specs.Text.{IsText};
+ghost use Rattle.std.specs.Prelude.{◌≡◌, ◌⊎◌, IsTrue, ◌↔◌, codes, IfSome, IfNone};
+ghost use Rattle.first_requests.specs.Requests.{IsName, StandsForName, StandsFor, StandsForTriple};
 ghost use Rattle.m3_terms.specs.Term.{IsUriText, IsLiteralText};
-ghost use Rattle.ssap_items.specs.Canon.{escaped};
-ghost use Rattle.first_requests.specs.Requests.{IsIdentifier, IsName, IsNamed, IsKnown, raw_term};
-ghost use Rattle.first_requests.specs.Loose.{object_tag};
 
-use crate::references::unescape;
-use m3_terms::{NoMemory, Term, TermFault, Text};
-use std::alloc::Global;
-
-/// The most bytes that an identifier may have.
-const IDENTIFIER_LIMIT: usize = 1024;
-
-/// The text of these bytes, where they are one.
-fn text_of(alloc: Global, bytes: &[u8]) -> Result<Option<Text>, NoMemory>
-    ensures { IfOk result (λ found. SomeIff found (IsText bytes.now) bytes.now) }
-{
-    match Text::read(alloc, bytes) {
-        Ok(text) => Ok(Some(text)),
-        Err(TermFault::NoMemory) => Err(NoMemory),
-        Err(_) => Ok(None),
-    }
-}
-
-/// The uri with this text, where it is a uri's.
-fn uri_of(alloc: Global, bytes: &[u8]) -> Result<Option<Term>, NoMemory>
-    ensures { IfOk result (λ found. SomeIff found (IsUriText bytes.now) (Term.Uri bytes.now)) }
-{
-    match Term::uri(alloc, bytes) {
-        Ok(term) => Ok(Some(term)),
-        Err(TermFault::NoMemory) => Err(NoMemory),
-        Err(_) => Ok(None),
-    }
-}
-
-/// The literal with this text, where it is a literal's.
-fn literal_of(alloc: Global, bytes: &[u8]) -> Result<Option<Term>, NoMemory>
-    ensures { IfOk result (λ found. SomeIff found (IsLiteralText bytes.now) (Term.Literal bytes.now)) }
-{
-    match Term::literal(alloc, bytes) {
-        Ok(term) => Ok(Some(term)),
-        Err(TermFault::NoMemory) => Err(NoMemory),
-        Err(_) => Ok(None),
-    }
-}
+use m3_terms::{TERM_LIMIT, Term, Text, Triple};
+use ssap_items::{Kind, RawTerm, RawTriple};
 
 /// Whether a text is a spelling of the wildcard.
 fn is_wildcard(bytes: &[u8]) -> bool
@@ -52,63 +12,78 @@ fn is_wildcard(bytes: &[u8]) -> bool
     bytes == b"sib:any".as_slice() || bytes == b"http://www.nokia.com/NRC/M3/sib#any".as_slice()
 }
 
-/// The uri with this text, where it is a uri's and no wildcard.
-fn name_of(alloc: Global, bytes: &[u8]) -> Result<Option<Term>, NoMemory>
-    ensures { IfOk result (λ found. SomeIff found (IsName bytes.now) (Term.Uri bytes.now)) }
+/// Whether a text is a uri's, and no wildcard.
+fn is_name(text: &Text) -> bool
+    ensures { IsTrue result ↔ IsName text.now }
 {
-    if is_wildcard(bytes) {
-        Ok(None)
+    !text.is_empty() && text.len() <= TERM_LIMIT && !is_wildcard(text.as_bytes())
+}
+
+/// The uri with this text, where it is one's and no wildcard.
+fn name(text: Text) -> Option<Term>
+    ensures some { IfSome result (λ term. (term ≡ Term.Uri text) × IsName text) }
+    ensures none { IfNone result (¬ IsName text) }
+{
+    if is_name(&text) {
+        Some(Term::Uri(text))
     } else {
-        uri_of(alloc, bytes)
+        None
     }
 }
 
-/// The identifier with this text, where it is one's.
-fn identifier_of(alloc: Global, bytes: &[u8]) -> Result<Option<Text>, NoMemory>
-    ensures { IfOk result (λ found. SomeIff found (IsIdentifier bytes.now) bytes.now) }
+/// The literal with this text, where it is one's.
+fn literal(text: Text) -> Option<Term>
+    ensures some { IfSome result (λ term. (term ≡ Term.Literal text) × IsLiteralText text) }
+    ensures none { IfNone result (¬ IsLiteralText text) }
 {
-    if bytes.is_empty() || bytes.len() > IDENTIFIER_LIMIT {
-        Ok(None)
+    if text.as_bytes().len() <= TERM_LIMIT {
+        Some(Term::Literal(text))
     } else {
-        text_of(alloc, bytes)
+        None
     }
 }
 
-/// The identifier that is spelled so.
-pub fn identifier(alloc: Global, spelled: &[u8]) -> Result<Option<Text>, NoMemory>
-    ensures some { IfOk result (λ found. IfSome found IsIdentifier) }
-    ensures only { (text : List ℕ) → IsIdentifier text → spelled.now ≡ escaped text → IfOk result (λ found. found ≡ Some text) }
+/// The uri that a spelled term stands for, where it is one and no wildcard.
+fn subject(raw: RawTerm) -> Option<Term>
+    ensures some { IfSome result (StandsForName raw) }
+    ensures none { IfNone result ((term : Term) → ¬ StandsForName raw term) }
 {
-    let bytes = unescape(alloc, spelled)?;
-    identifier_of(alloc, &bytes)
-}
-
-/// The uri that is spelled so and is no wildcard.
-pub fn name(alloc: Global, spelled: &[u8]) -> Result<Option<Term>, NoMemory>
-    ensures some { IfOk result (λ found. IfSome found IsNamed) }
-    ensures only { (term : Term) → IsNamed term → spelled.now ≡ escaped (raw_term term).text → IfOk result (λ found. found ≡ Some term) }
-{
-    let bytes = unescape(alloc, spelled)?;
-    name_of(alloc, &bytes)
-}
-
-/// The literal that is spelled so.
-fn literal(alloc: Global, spelled: &[u8]) -> Result<Option<Term>, NoMemory>
-    ensures some { IfOk result (λ found. IfSome found IsKnown) }
-    ensures only { (text : List ℕ) → IsLiteralText text → spelled.now ≡ escaped text → IfOk result (λ found. found ≡ Some (Term.Literal text)) }
-{
-    let bytes = unescape(alloc, spelled)?;
-    literal_of(alloc, &bytes)
-}
-
-/// The object that is spelled so in an element with this tag.
-pub fn object(alloc: Global, tag: &[u8], spelled: &[u8]) -> Result<Option<Term>, NoMemory>
-    ensures some { IfOk result (λ found. IfSome found IsKnown) }
-    ensures only { (term : Term) → IsKnown term → tag.now ≡ object_tag term → spelled.now ≡ escaped (raw_term term).text → IfOk result (λ found. found ≡ Some term) }
-{
-    if tag == b"object type=\"uri\"".as_slice() {
-        name(alloc, spelled)
-    } else {
-        literal(alloc, spelled)
+    match raw.kind {
+        Kind::Uri => name(raw.text),
+        Kind::Literal => None,
+        Kind::Bnode => None,
     }
+}
+
+/// The uri or literal that a spelled term stands for, where it is one and no wildcard.
+fn object(raw: RawTerm) -> Option<Term>
+    ensures some { IfSome result (StandsFor raw) }
+    ensures none { IfNone result ((term : Term) → ¬ StandsFor raw term) }
+{
+    match raw.kind {
+        Kind::Uri => name(raw.text),
+        Kind::Literal => literal(raw.text),
+        Kind::Bnode => None,
+    }
+}
+
+/// The triple that a spelled one stands for, where it has no wildcard.
+pub fn triple(raw: RawTriple) -> Option<Triple>
+    ensures some { IfSome result (StandsForTriple raw) }
+    ensures none { IfNone result ((triple : Triple) → ¬ StandsForTriple raw triple) }
+{
+    let Some(subject) = subject(raw.subject) else {
+        return None;
+    };
+    let Some(predicate) = name(raw.predicate) else {
+        return None;
+    };
+    let Some(object) = object(raw.object) else {
+        return None;
+    };
+    Some(Triple {
+        subject,
+        predicate,
+        object,
+    })
 }

@@ -17,7 +17,6 @@ use Rattle.sib_app.specs.Session.{Replays, Stops, Finishes, WritesLast, GivesEnd
 use Rattle.sib_app.specs.declared.session.Session.{Session}
 use Rattle.sib_app.specs.declared.ending.Ending.{Ending}
 use Rattle.sib_app.specs.declared.ending.Ending.TheVariants.{Done, BadScript, ReadFault, WriteFault, NoMemory, Spent}
-use Rattle.first_requests.proofs.Taken.{taken_once_law}
 use Rattle.sib_app.proofs.OutputLemmas.{told_same}
 use Rattle.sib_app.proofs.FeedLemmas.{front_of_replay}
 
@@ -75,7 +74,7 @@ module _ (name : List ℕ) (old given : Option (List ℕ)) (read : List ℕ) (re
       → answers name h.events ++ last_line session.core ≡ output
   script_output h none output (fs, left, gs, splits, told, is) =
       let same = splits_unique read h.entries fs [] left (splits_script read h.entries (script_read h none)) splits in
-      let gone : gs ≡ h.events = told_same taken_once_law name h.entries h.events gs h.told (subst (λ l. AreTaken name l gs) (sym same.0) told) in
+      let gone : gs ≡ h.events = told_same name h.entries h.events gs h.told (subst (λ l. AreTaken name l gs) (sym same.0) told) in
       ap (λ (s : Space). answers name h.events ++ last_line s) h.stands.core
       ∙ ap (λ l. answers name h.events ++ farewell name h.events l) same.1
       ∙ ap (λ ds. answers name ds ++ farewell name ds left) (sym gone) ∙ sym is

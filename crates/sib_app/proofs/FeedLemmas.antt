@@ -43,7 +43,7 @@ module _ (name : List ℕ) (old given : Option (List ℕ)) (read bytes : List �
 
   -- a call that ended an entry holds it
   pub feeds_entry : (count : ℕ) (entry : Entry) → Replays name old given read reader session → Feeds reader bytes count mid → mid.waiting ≡ Some entry
-      → length read + length bytes < 2 ^ 64 → Holds name old given (read ++ take count bytes) entry (record mid { waiting = None }) session
+      → length read + length bytes < 2 ^ 63 → Holds name old given (read ++ take count bytes) entry (record mid { waiting = None }) session
   feeds_entry count entry h f some small =
       let t = subst (λ w. TakesPiece reader (take count bytes) (drop count bytes) w mid) some (took count h f).1 in
       let piece = take count bytes in

@@ -1,3 +1,7 @@
+pub mod Results
+pub mod ReadOnce
+pub mod HearingLemmas
+pub mod DeliveryLemmas
 pub mod SessionLemmas
 pub mod SessionAnswers
 pub mod OutputLemmas

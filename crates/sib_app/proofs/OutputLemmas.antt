@@ -1,13 +1,12 @@
 -- What is written for some entries is the front of what is written for these and more.
-use Rattle.std.proofs.Common.{◌≡◌, ◌∙◌, ap, sym, refl, subst, ℕ, true, false, List, [], ◌∷◌, ◌++◌, Option, append_assoc, append-nil}
+use Rattle.std.proofs.Common.{◌≡◌, ◌∙◌, ap, sym, refl, subst, ℕ, true, false, List, [], ◌∷◌, ◌++◌, append_assoc, append-nil}
 use Rattle.std.specs.Bool.{MatchBool}
-use Rattle.session_core.specs.declared.request.FirstRequest.{FirstRequest}
-use Rattle.first_requests.specs.Requests.{TakenAs}
 use Rattle.sib_script.specs.declared.entry.Entry.{Entry}
 use Rattle.sib_script.specs.declared.entry.Entry.TheVariants.{NewLink, Bytes, End}
-use Rattle.sib_app.specs.Output.{Event, Closed, is_open, heard_as, IsHeard, IsTaken, AreTakenAfter, AreTaken, answer, answers_after, answers}
+use Rattle.sib_app.specs.Output.{Event, Hears, Closed, is_open, heard, asked_on, IsHeard, IsEnded, IsTaken, AreTakenAfter, AreTaken, answer, answers_after, answers}
+use Rattle.sib_app.proofs.ReadOnce.{heard_once, ended_once}
 
--- the answers to some entries, and then those to more
+-- the answers to some events, and then those to more
 pub answers_after-append : (name : List ℕ) (before vs ws : List Event) → answers_after name before (vs ++ ws) ≡ answers_after name before vs ++ answers_after name (before ++ vs) ws
 answers_after-append name before [] ws = ap (λ b. answers_after name b ws) (sym (append-nil before))
 answers_after-append name before (v ∷ vs) ws =
@@ -15,62 +14,61 @@ answers_after-append name before (v ∷ vs) ws =
     ∙ ap (λ b. answers_after name (before ++ v ∷ []) vs ++ answers_after name b ws) (append_assoc before (v ∷ []) vs))
     ∙ sym (append_assoc (answer name before v) (answers_after name (before ++ v ∷ []) vs) (answers_after name (before ++ v ∷ vs) ws))
 
--- the answers to one entry more
-pub answers-push : (name : List ℕ) (vs : List Event) (v : Event) → answers name (vs ++ v ∷ []) ≡ answers name vs ++ answer name vs v
-answers-push name vs v = answers_after-append name [] vs (v ∷ []) ∙ ap (λ l. answers name vs ++ l) (append-nil (answer name vs v))
+-- the answers to some events more
+pub answers-append : (name : List ℕ) (vs ws : List Event) → answers name (vs ++ ws) ≡ answers name vs ++ answers_after name vs ws
+answers-append name vs ws = answers_after-append name [] vs ws
 
 -- one entry more is taken as it is
-taken_after-push : (name : List ℕ) (before : List Event) (es : List Entry) (vs : List Event) (e : Entry) (v : Event) → AreTakenAfter name before es vs → IsTaken name (before ++ vs) e v
-    → AreTakenAfter name before (es ++ e ∷ []) (vs ++ v ∷ [])
-taken_after-push name before [] [] e v t h = (subst (λ b. IsTaken name b e v) (append-nil before) h, tt)
-taken_after-push name before [] (w ∷ vs) e v t h = absurd t
-taken_after-push name before (d ∷ es) [] e v t h = absurd t
-taken_after-push name before (d ∷ es) (w ∷ vs) e v t h =
-    (t.0, taken_after-push name (before ++ w ∷ []) es vs e v t.1 (subst (λ b. IsTaken name b e v) (sym (append_assoc before (w ∷ []) vs)) h))
+taken_after-push : (name : List ℕ) (before : List Event) (es : List Entry) (vs : List Event) (e : Entry) (ws : List Event) → AreTakenAfter name before es vs → IsTaken name (before ++ vs) e ws
+    → AreTakenAfter name before (es ++ e ∷ []) (vs ++ ws)
+taken_after-push name before [] vs e ws t h =
+    let same : before ++ vs ≡ before = ap (λ l. before ++ l) t ∙ append-nil before in
+    (ws, [], ap (λ l. l ++ ws) t ∙ sym (append-nil ws), subst (λ b. IsTaken name b e ws) same h, refl)
+taken_after-push name before (d ∷ es) vs e ws (first, others, is, taken, rest) h =
+    let more = taken_after-push name (before ++ first) es others e ws rest
+    (subst (λ b. IsTaken name b e ws) (ap (λ l. before ++ l) is ∙ sym (append_assoc before first others)) h)
+    in
+    (first, others ++ ws, ap (λ l. l ++ ws) is ∙ append_assoc first others ws, taken, more)
 
-pub taken-push : (name : List ℕ) (es : List Entry) (vs : List Event) (e : Entry) (v : Event) → AreTaken name es vs → IsTaken name vs e v → AreTaken name (es ++ e ∷ []) (vs ++ v ∷ [])
-taken-push name es vs e v t h = taken_after-push name [] es vs e v t h
+pub taken-push : (name : List ℕ) (es : List Entry) (vs : List Event) (e : Entry) (ws : List Event) → AreTaken name es vs → IsTaken name vs e ws → AreTaken name (es ++ e ∷ []) (vs ++ ws)
+taken-push name es vs e ws t h = taken_after-push name [] es vs e ws t h
 
--- a delivery is taken as at most one thing
-module _ (once : (name bytes : List ℕ) (a b : Option FirstRequest) → TakenAs name bytes a → TakenAs name bytes b → a ≡ b) where
-  -- a delivery on an open link is taken as one thing
-  heard_once : (name : List ℕ) (link : ℕ) (bytes : List ℕ) (v w : Event) → IsHeard name link bytes v → IsHeard name link bytes w → v ≡ w
-  heard_once name link bytes v w (a, p, is) (b, q, as_) = is ∙ ap (heard_as link bytes) (once name bytes a b p q) ∙ sym as_
+-- a delivery on an open link is taken as one thing
+delivery_once : (name : List ℕ) (before : List Event) (link : ℕ) (bytes : List ℕ) (v w : List Event) → IsHeard name before link bytes v → IsHeard name before link bytes w → v ≡ w
+delivery_once name before link bytes v w (a, is, p) (b, as_, q) =
+    is ∙ ap (λ l. Hears link bytes ∷ l) (heard_once name link (asked_on before link) (heard before link ++ bytes) a b p q) ∙ sym as_
 
-  -- an entry is taken as one thing
-  taken_once : (name : List ℕ) (before : List Event) (e : Entry) (v w : Event) → IsTaken name before e v → IsTaken name before e w → v ≡ w
-  taken_once name before NewLink v w s t = s ∙ sym t
-  taken_once name before (Bytes link bytes) v w s t =
-      elim (is_open before link)
-      as (λ b. MatchBool b (IsHeard name link bytes v) (v ≡ Closed link) → MatchBool b (IsHeard name link bytes w) (w ≡ Closed link) → v ≡ w)
-      [ true ↦ λ x y. heard_once name link bytes v w x y | false ↦ λ x y. x ∙ sym y ] s t
-  taken_once name before (End link) v w s t = s ∙ sym t
+-- an entry is taken as one thing
+taken_once : (name : List ℕ) (before : List Event) (e : Entry) (v w : List Event) → IsTaken name before e v → IsTaken name before e w → v ≡ w
+taken_once name before NewLink v w s t = s ∙ sym t
+taken_once name before (Bytes link bytes) v w s t =
+    elim (is_open before link)
+    as (λ b. MatchBool b (IsHeard name before link bytes v) (v ≡ Closed link ∷ []) → MatchBool b (IsHeard name before link bytes w) (w ≡ Closed link ∷ []) → v ≡ w)
+    [ true ↦ λ x y. delivery_once name before link bytes v w x y | false ↦ λ x y. x ∙ sym y ] s t
+taken_once name before (End link) v w s t =
+    elim (is_open before link)
+    as (λ b. MatchBool b (IsEnded before link v) (v ≡ Closed link ∷ []) → MatchBool b (IsEnded before link w) (w ≡ Closed link ∷ []) → v ≡ w)
+    [ true ↦ λ x y. ended_once before link v w x y | false ↦ λ x y. x ∙ sym y ] s t
 
-  -- what more entries are taken as begins with what the first are
-  taken_front : (name : List ℕ) (before : List Event) (es tail : List Entry) (vs ws : List Event) → AreTakenAfter name before es vs → AreTakenAfter name before (es ++ tail) ws
-      → (rest : List Event) × (ws ≡ vs ++ rest)
-  taken_front name before [] tail [] ws s t = (ws, refl)
-  taken_front name before [] tail (v ∷ vs) ws s t = absurd s
-  taken_front name before (e ∷ es) tail [] ws s t = absurd s
-  taken_front name before (e ∷ es) tail (v ∷ vs) [] s t = absurd t
-  taken_front name before (e ∷ es) tail (v ∷ vs) (w ∷ ws) s t =
-      let same : w ≡ v = taken_once name before e w v t.0 s.0 in
-      let rest = taken_front name (before ++ v ∷ []) es tail vs ws s.1 (subst (λ x. AreTakenAfter name (before ++ x ∷ []) (es ++ tail) ws) same t.1) in
-      (rest.0, ap (λ x. x ∷ ws) same ∙ ap (λ l. v ∷ l) rest.1)
+-- what more entries are taken as begins with what the first are
+taken_front : (name : List ℕ) (before : List Event) (es tail : List Entry) (vs ws : List Event) → AreTakenAfter name before es vs → AreTakenAfter name before (es ++ tail) ws
+    → (rest : List Event) × (ws ≡ vs ++ rest)
+taken_front name before [] tail vs ws s t = (ws, sym (ap (λ l. l ++ ws) s))
+taken_front name before (e ∷ es) tail vs ws (first, others, is, taken, s) (start, more, as_, again, t) =
+    let same : start ≡ first = taken_once name before e start first again taken in
+    let rest = taken_front name (before ++ first) es tail others more s (subst (λ x. AreTakenAfter name (before ++ x) (es ++ tail) more) same t) in
+    (rest.0, as_ ∙ ap (λ x. x ++ more) same ∙ ap (λ l. first ++ l) rest.1 ∙ sym (append_assoc first others rest.0) ∙ ap (λ l. l ++ rest.0) (sym is))
 
-  pub told_front : (name : List ℕ) (es tail : List Entry) (vs ws : List Event) → AreTaken name es vs → AreTaken name (es ++ tail) ws → (rest : List Event) × (ws ≡ vs ++ rest)
-  told_front name es tail vs ws s t = taken_front name [] es tail vs ws s t
+pub told_front : (name : List ℕ) (es tail : List Entry) (vs ws : List Event) → AreTaken name es vs → AreTaken name (es ++ tail) ws → (rest : List Event) × (ws ≡ vs ++ rest)
+told_front name es tail vs ws s t = taken_front name [] es tail vs ws s t
 
-  -- entries are taken as one thing
-  same_after : (name : List ℕ) (before : List Event) (es : List Entry) (vs ws : List Event) → AreTakenAfter name before es vs → AreTakenAfter name before es ws → ws ≡ vs
-  same_after name before [] [] [] s t = refl
-  same_after name before [] [] (w ∷ ws) s t = absurd t
-  same_after name before [] (v ∷ vs) ws s t = absurd s
-  same_after name before (e ∷ es) [] ws s t = absurd s
-  same_after name before (e ∷ es) (v ∷ vs) [] s t = absurd t
-  same_after name before (e ∷ es) (v ∷ vs) (w ∷ ws) s t =
-      let same : w ≡ v = taken_once name before e w v t.0 s.0 in
-      ap (λ x. x ∷ ws) same ∙ ap (λ l. v ∷ l) (same_after name (before ++ v ∷ []) es vs ws s.1 (subst (λ x. AreTakenAfter name (before ++ x ∷ []) es ws) same t.1))
+-- entries are taken as one thing
+same_after : (name : List ℕ) (before : List Event) (es : List Entry) (vs ws : List Event) → AreTakenAfter name before es vs → AreTakenAfter name before es ws → ws ≡ vs
+same_after name before [] vs ws s t = t ∙ sym s
+same_after name before (e ∷ es) vs ws (first, others, is, taken, s) (start, more, as_, again, t) =
+    let same : start ≡ first = taken_once name before e start first again taken in
+    as_ ∙ ap (λ x. x ++ more) same
+    ∙ ap (λ l. first ++ l) (same_after name (before ++ first) es others more s (subst (λ x. AreTakenAfter name (before ++ x) es more) same t)) ∙ sym is
 
-  pub told_same : (name : List ℕ) (es : List Entry) (vs ws : List Event) → AreTaken name es vs → AreTaken name es ws → ws ≡ vs
-  told_same name es vs ws s t = same_after name [] es vs ws s t
+pub told_same : (name : List ℕ) (es : List Entry) (vs ws : List Event) → AreTaken name es vs → AreTaken name es ws → ws ≡ vs
+told_same name es vs ws s t = same_after name [] es vs ws s t

@@ -1,64 +1,83 @@
 -- How a replay goes on from one entry to the next, and what stands where it stops.
-use Rattle.std.proofs.Common.{◌≡◌, ◌∙◌, ap, sym, refl, subst, arith, ℕ, ◌≤◌, ◌==◌, true, false, cond, List, [], ◌∷◌, ◌++◌, length, Option, Some, None, Result, Ok, Err, IfErr, OnOk, append_assoc, append-nil, length-append, inr}
+use Rattle.std.proofs.Common.{◌≡◌, ◌∙◌, ap, sym, refl, subst, arith, ℕ, ◌≤◌, ◌==◌, true, false, cond, List, [], ◌∷◌, ◌++◌, length, drop, Option, Some, None, Result, Ok, Err, IfErr, OnOk, append_assoc, append-nil, length-append, inl, inr}
 use Rattle.std.specs.Bool.{MatchBool}
 use Rattle.std.specs.Io.KnownBytes.{Appends}
 use Rattle.std.proofs.KnownBytes.{Appends-trans}
+use Rattle.ssap_grammar.specs.Stream.{Placed}
 use Rattle.sib_io.specs.Causes.{AppendsPart}
 use Rattle.sib_io.proofs.KnownLemmas.{part_after, part_of_more}
-use Rattle.session_core.specs.declared.request.FirstRequest.{FirstRequest}
 use Rattle.sib_script.specs.declared.entry.Entry.{Entry}
 use Rattle.sib_script.specs.declared.entry.Entry.TheVariants.{NewLink, Bytes, End}
 use Rattle.sib_script.specs.Script.{entry_spelling, script_spelling, Splits}
 use Rattle.sib_script.specs.Reading.{Reading}
 use Rattle.sib_script.proofs.ScriptLaws.{script_spelling-push, entries_push, splits_front, splits_reading}
-use Rattle.sib_app.specs.Output.{Event, Opens, Full, Ends, Closed, brought_on, is_full, is_open, heard, heard_as, IsHeard, IsTaken, AreTakenAfter, AreTaken, answers, answers_after, farewell}
+use Rattle.sib_app.specs.Output.{Event, Opens, Full, Stops, Ends, Closed, is_full, is_open, heard, asked_on, AreAsked, IsHeard, IsEnded, IsTaken, AreTakenAfter, AreTaken, answers, answers_after, farewell}
 use Rattle.sib_app.specs.Session.{Answers, Replays, Holds, Fails, GivesFront, Delivers, Fits}
+use Rattle.sib_app.specs.declared.why.Why.TheVariants.{Cut}
 use Rattle.sib_app.specs.declared.session.Session.{Session}
 use Rattle.sib_app.specs.declared.ending.Ending.{Ending}
 use Rattle.sib_app.specs.declared.ending.Ending.TheVariants.{Done, BadScript, ReadFault, WriteFault, NoMemory, Spent}
-use Rattle.sib_app.proofs.OutputLemmas.{answers_after-append, answers-push, taken-push, told_front}
-use Rattle.first_requests.proofs.Taken.{taken_once_law}
+use Rattle.sib_app.proofs.SessionLemmas.{heard-append}
+use Rattle.sib_app.proofs.OutputLemmas.{answers_after-append, answers-append, taken-push, told_front}
 
 -- a delivery's spelling is longer than its bytes
 spelled_longer : (link : ℕ) (bytes : List ℕ) → length bytes ≤ length (entry_spelling (Bytes link bytes))
 unfolding entry_spelling
 spelled_longer link bytes = simp length-append (omega arith)
 
+-- what messages are taken as brings no bytes
+asked_quiet : (name : List ℕ) (link other : ℕ) (front rest : List ℕ) (messages : List Placed) (events : List Event) → AreAsked name other front rest messages events → heard events link ≡ []
+asked_quiet name link other front rest [] events (None, stands, is) = ap (λ vs. heard vs link) is
+asked_quiet name link other front rest [] events (Some why, stands, is) = ap (λ vs. heard vs link) is
+asked_quiet name link other front rest (message ∷ messages) events (None, taken, is) = ap (λ vs. heard vs link) is
+asked_quiet name link other front rest (message ∷ messages) events (Some request, taken, (others, is, more)) =
+    ap (λ vs. heard vs link) is ∙ asked_quiet name link other front rest messages others more
+
 -- a delivery brings no more than its bytes
-heard_within : (link other : ℕ) (bytes : List ℕ) (request : Option FirstRequest) → length (brought_on link (heard_as other bytes request)) ≤ length bytes
-heard_within link other bytes None = omega arith
-heard_within link other bytes (Some request) = elim (other == link) as (λ b. length (cond b bytes []) ≤ length bytes) [ true ↦ omega arith | false ↦ omega arith ]
+heard_within : (name : List ℕ) (before : List Event) (link other : ℕ) (bytes : List ℕ) (events : List Event) → IsHeard name before other bytes events → length (heard events link) ≤ length bytes
+heard_within name before link other bytes events (others, is, h) =
+    let quiet = asked_quiet name link other h.front h.rest (drop (asked_on before other) h.messages) others h.taken in
+    let all : heard events link ≡ cond (other == link) bytes [] = ap (λ vs. heard vs link) is ∙ ap (λ l. cond (other == link) bytes [] ++ l) quiet ∙ append-nil (cond (other == link) bytes []) in
+    subst (λ l. length l ≤ length bytes) (sym all) (elim (other == link) as (λ b. length (cond b bytes []) ≤ length bytes) [ true ↦ omega arith | false ↦ omega arith ])
+
+-- an entry that brings nothing
+quiet_within : (link : ℕ) (e : Entry) (v w : List Event) → v ≡ w → heard w link ≡ [] → length (heard v link) ≤ length (entry_spelling e)
+quiet_within link e v w is none = subst (λ l. length l ≤ length (entry_spelling e)) (sym (ap (λ vs. heard vs link) is ∙ none)) (omega arith)
 
 -- an entry brings no more than its spelling
-brought_within : (name : List ℕ) (before : List Event) (link : ℕ) (e : Entry) (v : Event) → IsTaken name before e v → length (brought_on link v) ≤ length (entry_spelling e)
+brought_within : (name : List ℕ) (before : List Event) (link : ℕ) (e : Entry) (v : List Event) → IsTaken name before e v → length (heard v link) ≤ length (entry_spelling e)
 brought_within name before link NewLink v t =
-    subst (λ v. length (brought_on link v) ≤ length (entry_spelling NewLink)) (sym t)
-    (elim (is_full before) as (λ b. length (brought_on link (cond b Full Opens)) ≤ length (entry_spelling NewLink)) [ true ↦ omega arith | false ↦ omega arith ])
+    quiet_within link NewLink v _ t (elim (is_full before) as (λ b. heard (cond b Full Opens ∷ []) link ≡ []) [ true ↦ refl | false ↦ refl ])
 brought_within name before link (Bytes other bytes) v t =
-    elim (is_open before other) as (λ b. MatchBool b (IsHeard name other bytes v) (v ≡ Closed other) → length (brought_on link v) ≤ length (entry_spelling (Bytes other bytes))) [
-      | true ↦ λ h. subst (λ v. length (brought_on link v) ≤ length (entry_spelling (Bytes other bytes))) (sym h.2)
-          (omega (arith, heard_within link other bytes h.0, spelled_longer other bytes))
-      | false ↦ λ h. subst (λ v. length (brought_on link v) ≤ length (entry_spelling (Bytes other bytes))) (sym h) (omega arith)
+    elim (is_open before other) as (λ b. MatchBool b (IsHeard name before other bytes v) (v ≡ Closed other ∷ []) → length (heard v link) ≤ length (entry_spelling (Bytes other bytes))) [
+      | true ↦ λ h. omega (arith, heard_within name before link other bytes v h, spelled_longer other bytes)
+      | false ↦ λ h. quiet_within link (Bytes other bytes) v (Closed other ∷ []) h refl
     ] t
 brought_within name before link (End other) v t =
-    subst (λ v. length (brought_on link v) ≤ length (entry_spelling (End other))) (sym t)
-    (elim (is_open before other) as (λ b. length (brought_on link (cond b (Ends other) (Closed other))) ≤ length (entry_spelling (End other))) [ true ↦ omega arith | false ↦ omega arith ])
+    elim (is_open before other) as (λ b. MatchBool b (IsEnded before other v) (v ≡ Closed other ∷ []) → length (heard v link) ≤ length (entry_spelling (End other))) [
+      | true ↦ λ h. ended h
+      | false ↦ λ h. quiet_within link (End other) v (Closed other ∷ []) h refl
+    ] t
+  where
+    ended : IsEnded before other v → length (heard v link) ≤ length (entry_spelling (End other))
+    ended (inl a) = quiet_within link (End other) v (Ends other ∷ []) a.2 refl
+    ended (inr a) = quiet_within link (End other) v (Stops other (Cut a.0) ∷ []) a.2 refl
 
 -- what came on a link is within the bytes that were read
 heard_read : (name : List ℕ) (before : List Event) (link : ℕ) (es : List Entry) (vs : List Event) → AreTakenAfter name before es vs → length (heard vs link) ≤ length (script_spelling es)
-heard_read name before link [] [] t = omega arith
-heard_read name before link [] (v ∷ vs) t = absurd t
-heard_read name before link (e ∷ es) [] t = absurd t
-heard_read name before link (e ∷ es) (v ∷ vs) t =
+heard_read name before link [] vs t = subst (λ l. length (heard l link) ≤ 0) (sym t) (omega arith)
+heard_read name before link (e ∷ es) vs (first, others, is, taken, rest) =
     omega (
       arith,
-      brought_within name before link e v t.0,
-      heard_read name (before ++ v ∷ []) link es vs t.1,
-      length-append (brought_on link v) (heard vs link),
+      ap (λ l. length (heard l link)) is,
+      ap length (heard-append first others link),
+      length-append (heard first link) (heard others link),
+      brought_within name before link e first taken,
+      heard_read name (before ++ first) link es others rest,
       length-append (entry_spelling e) (script_spelling es),
     )
 
--- an entry that was read whole has its bytes, behind those on its link, below the greatest u64
+-- an entry that was read whole has bytes that, behind those on its link, can be counted
 pub fits_of_held : (name : List ℕ) (old new : Option (List ℕ)) (read : List ℕ) (entry : Entry) (reader : Reading) (session : Session)
     → (h : Holds name old new read entry reader session) → Fits h.events entry
 fits_of_held name old new read NewLink reader session h = tt
@@ -78,7 +97,7 @@ pub front_of_output : (name : List ℕ) (old now : Option (List ℕ)) (read rest
     → AreTaken name es ds → AppendsPart old now (answers name ds) → GivesFront name old now read
 front_of_output name old now read rest es ds s t part more output (fs, left, gs, splits, told, is) =
     let grown = splits_front read more es fs rest left s splits in
-    let same = told_front taken_once_law name es grown.0 ds gs t (subst (λ l. AreTaken name l gs) grown.1 told) in
+    let same = told_front name es grown.0 ds gs t (subst (λ l. AreTaken name l gs) grown.1 told) in
     let behind : List ℕ = answers_after name ds same.0 ++ farewell name gs left in
     let whole : answers name ds ++ behind ≡ output =
     sym (append_assoc (answers name ds) (answers_after name ds same.0) (farewell name gs left))
@@ -100,16 +119,16 @@ replays_entry : (name : List ℕ) (old given now : Option (List ℕ)) (read : Li
     → Replays name old now read reader new
 replays_entry name old given now read entry written reader session new h a p = record {
   entries = h.entries ++ entry ∷ [];
-  events = h.events ++ a.event ∷ [];
+  events = h.events ++ a.events;
   allowed = entries_push h.entries entry h.allowed h.comes;
   spelled = h.spelled ∙ sym (script_spelling-push h.entries entry) ∙ sym (ap (λ l. script_spelling (h.entries ++ entry ∷ []) ++ l) h.unread ∙ append-nil (script_spelling (h.entries ++ entry ∷ [])));
   part = inr h.unread;
   waiting = h.waiting;
   running = h.running;
   taken = h.taken;
-  told = taken-push name h.entries h.events entry a.event h.told a.taken;
+  told = taken-push name h.entries h.events entry a.events h.told a.taken;
   stands = a.stands;
-  given = subst (Appends old now) (ap (λ l. answers name h.events ++ l) a.answer ∙ sym (answers-push name h.events a.event))
+  given = subst (Appends old now) (ap (λ l. answers name h.events ++ l) a.answer ∙ sym (answers-append name h.events a.events))
       (Appends-trans old given now (answers name h.events) written h.given p);
 }
 
@@ -118,10 +137,10 @@ front_of_answer : (name : List ℕ) (old given now : Option (List ℕ)) (read : 
     → (h : Holds name old given read entry reader session) → Answers name h.events entry written new → AppendsPart given now written
     → GivesFront name old now read
 front_of_answer name old given now read entry written reader session new h a p =
-    front_of_output name old now read [] (h.entries ++ entry ∷ []) (h.events ++ a.event ∷ [])
+    front_of_output name old now read [] (h.entries ++ entry ∷ []) (h.events ++ a.events)
     (held_splits name old given read entry reader session h)
-    (taken-push name h.entries h.events entry a.event h.told a.taken)
-    (subst (AppendsPart old now) (ap (λ l. answers name h.events ++ l) a.answer ∙ sym (answers-push name h.events a.event))
+    (taken-push name h.entries h.events entry a.events h.told a.taken)
+    (subst (AppendsPart old now) (ap (λ l. answers name h.events ++ l) a.answer ∙ sym (answers-append name h.events a.events))
     (part_after old given now (answers name h.events) written h.given p))
 
 -- where nothing more was given, it was given a front of all that is written
@@ -131,7 +150,7 @@ front_of_held name old given read entry reader session h more output (fs, left, 
     let grown = splits_front read more (h.entries ++ entry ∷ []) fs [] left (held_splits name old given read entry reader session h) splits in
     let tail : List Entry = entry ∷ grown.0 in
     let grown_on : fs ≡ h.entries ++ tail = grown.1 ∙ append_assoc h.entries (entry ∷ []) grown.0 in
-    let same = told_front taken_once_law name h.entries tail h.events gs h.told (subst (λ l. AreTaken name l gs) grown_on told) in
+    let same = told_front name h.entries tail h.events gs h.told (subst (λ l. AreTaken name l gs) grown_on told) in
     let behind : List ℕ = answers_after name h.events same.0 ++ farewell name gs left in
     let whole : answers name h.events ++ behind ≡ output =
     sym (append_assoc (answers name h.events) (answers_after name h.events same.0) (farewell name gs left))

@@ -8,7 +8,6 @@ use Rattle.sib_script.specs.declared.entry.Entry.{Entry}
 use Rattle.sib_script.specs.Script.{entry_spelling, script_spelling, Splits, IsScript, BeginsScript}
 use Rattle.sib_script.proofs.ScriptLaws.{splits_script, splits_unique, inside_no_script, script_spelling-push, entries_push, fronts, Shorter, Longer}
 use Rattle.m3_terms.proofs.Lists.{heads_same, tails_same}
-use Rattle.first_requests.proofs.Taken.{taken_once_law}
 use Rattle.sib_app.specs.Output.{answers, farewell, AreTaken, IsOutput}
 use Rattle.sib_app.specs.Ending.{Outside, Ended, Outcome, GivesPart, GivesAnswers, GivesAll, GivesBefore, IsReplay, status_of}
 use Rattle.sib_app.specs.Session.{GivesFront}
@@ -66,7 +65,7 @@ front_of_answers name old new read rest g =
 all_of_output : (name : List ℕ) (old new : Option (List ℕ)) (read output : List ℕ) → GivesAll name old new read → IsOutput name read output → Appends old new output
 all_of_output name old new read output g (fs, left, gs, splits, taken, is) =
     let same = splits_unique read g.entries fs [] left (splits_script read g.entries g.script) splits in
-    let gone : gs ≡ g.events = told_same taken_once_law name g.entries g.events gs g.taken (subst (λ l. AreTaken name l gs) (sym same.0) taken) in
+    let gone : gs ≡ g.events = told_same name g.entries g.events gs g.taken (subst (λ l. AreTaken name l gs) (sym same.0) taken) in
     subst (Appends old new) (ap (λ l. answers name g.events ++ farewell name g.events l) same.1
     ∙ ap (λ ds. answers name ds ++ farewell name ds left) (sym gone) ∙ sym is) g.given
 

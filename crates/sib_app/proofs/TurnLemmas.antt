@@ -150,7 +150,7 @@ turns_start name now replay is stands = record {
     waiting = refl;
     running = refl;
     taken = refl;
-    told = tt;
+    told = refl;
     stands = stands;
     given = Appends-nil now.given;
   });

@@ -1,29 +1,35 @@
--- What a replay writes: a function of what each entry of the script is taken as, of which every answer is found anew from
+-- What a replay writes: a function of what the entries of the script are taken as, of which every answer is found anew from
 -- all that came before.
-use Rattle.std.specs.Prelude.{◌≡◌, ℕ, ◌-◌, ◌^◌, Bool, true, false, ◌&&◌, ◌||◌, ◌==◌, not, nat_le, if◌then◌else◌, List, [], ◌∷◌, ◌++◌, flat_map, length, codes, Option, Some, None, MatchBool, ⊤, refl}
-use Rattle.std.specs.List.{list_any, count_by}
+use Rattle.std.specs.Prelude.{◌≡◌, ◌⊎◌, ℕ, ◌+◌, ◌-◌, ◌≤◌, ◌^◌, Bool, true, false, ◌&&◌, ◌||◌, ◌==◌, not, nat_le, if◌then◌else◌, List, [], ◌∷◌, ◌++◌, flat_map, length, drop, codes, Option, Some, None, MatchBool, ⊤, refl}
+use Rattle.std.specs.List.{list_any, count_by, AllByRecursion}
 use Rattle.std.specs.Fmt.{decimal}
-use Rattle.std.proofs.Common.{arith}
+use Rattle.std.proofs.Common.{◌∙◌, ap, inl, inr, sym, subst, append-nil, arith}
 use Rattle.std.proofs.lemmas.Fmt.{decimal_digit}
 use Rattle.ssap_items.specs.Canon.{canonical}
-use Rattle.session_core.specs.Space.{Space, empty_space, after_all, confirm_of}
+use Rattle.ssap_grammar.specs.Stream.{Placed, Stream, IsViable, IsWhole, AreMessages, IsInside}
+use Rattle.ssap_decode.specs.declared.framed.TheConstants.{MESSAGE_LIMIT}
+use Rattle.session_core.specs.Space.{Space, empty_space, after, after_all, confirm_of}
 use Rattle.session_core.specs.declared.request.FirstRequest.{FirstRequest}
 use Rattle.first_requests.specs.Requests.{TakenAs}
 use Rattle.sib_script.specs.declared.entry.Entry.{Entry}
 use Rattle.sib_script.specs.declared.entry.Entry.TheVariants.{NewLink, Bytes, End}
 use Rattle.sib_script.specs.Script.{Splits}
+use Rattle.sib_app.specs.declared.why.Why.{Why}
+use Rattle.sib_app.specs.declared.why.Why.TheVariants.{Form, Syntax, Long, Cut}
 
--- what an entry is taken as
+-- what an entry is taken as: some events
 pub data Event : Type 0 where
   -- the next link opens
   Opens : Event
   -- no link may open
   Full : Event
-  -- the bytes that came on this open link are this request
-  Asks : (link : ℕ) (bytes : List ℕ) (request : FirstRequest) → Event
-  -- this open link stops, since what came on it is no request
-  Stops : (link : ℕ) → Event
-  -- the input of this open link ends
+  -- these bytes come on this open link
+  Hears : (link : ℕ) (bytes : List ℕ) → Event
+  -- a message that they complete is this request
+  Asks : (link : ℕ) (request : FirstRequest) → Event
+  -- this open link stops
+  Stops : (link : ℕ) (why : Why) → Event
+  -- the input of this open link ends, and no message is cut
   Ends : (link : ℕ) → Event
   -- the entry is of this link, which isn't open
   Closed : (link : ℕ) → Event
@@ -35,18 +41,23 @@ is_opening event = false
 
 -- the link that an event closes
 abbrev pub closed_by : Event → List ℕ
-closed_by (Stops link) = link ∷ []
+closed_by (Stops link why) = link ∷ []
 closed_by (Ends link) = link ∷ []
 closed_by event = []
 
 -- the bytes that an event brings on this link
 abbrev pub brought_on : ℕ → Event → List ℕ
-brought_on link (Asks other bytes request) = if other == link then bytes else []
+brought_on link (Hears other bytes) = if other == link then bytes else []
 brought_on link event = []
+
+-- this link asks
+abbrev pub asks_on : ℕ → Event → Bool
+asks_on link (Asks other request) = other == link
+asks_on link event = false
 
 -- the request of an event
 abbrev pub asked_by : Event → List FirstRequest
-asked_by (Asks link bytes request) = request ∷ []
+asked_by (Asks link request) = request ∷ []
 asked_by event = []
 
 -- how many links were opened, which are numbered from 1 in that order
@@ -73,6 +84,10 @@ is_full before = nat_le 1 (counted before) || nat_le (2 ^ 32 - 1) (opened before
 abbrev pub heard : List Event → ℕ → List ℕ
 heard before link = flat_map (brought_on link) before
 
+-- how many messages of a link were requests
+abbrev pub asked_on : List Event → ℕ → ℕ
+asked_on before link = count_by (asks_on link) before
+
 -- all requests, of whatever links
 abbrev pub requests_of : List Event → List FirstRequest
 requests_of before = flat_map asked_by before
@@ -81,27 +96,78 @@ requests_of before = flat_map asked_by before
 abbrev pub space_after : List ℕ → List Event → Space
 space_after name before = after_all (empty_space name) (requests_of before)
 
--- a delivery on an open link asks, or stops the link
-abbrev pub heard_as : ℕ → List ℕ → Option FirstRequest → Event
-heard_as link bytes None = Stops link
-heard_as link bytes (Some request) = Asks link bytes request
+-- a message has no more bytes than it may
+abbrev pub IsShort : Placed → Type 0
+IsShort message = message.end ≤ message.start + MESSAGE_LIMIT
+
+-- the grammar and the limit let these bytes through, whose messages these are: a stream goes on from them, and neither one
+-- of the messages nor what stands behind them is too long
+pub record AreLet (bytes : List ℕ) (messages : List Placed) : Type 0 where
+  pub viable : IsViable bytes
+  pub are : AreMessages bytes messages
+  pub short : AllByRecursion IsShort messages
+  pub rest_short : (whole : ℕ) → IsWhole bytes whole → length bytes ≤ whole + MESSAGE_LIMIT
+
+-- behind these bytes nothing follows; or no stream goes on with the byte that does; or one does, and the byte is the first
+-- above the limit of the message that begins at start
+abbrev pub StopsBehind : List ℕ → List ℕ → Option Why → Type 0
+StopsBehind front [] None = ⊤
+StopsBehind front [] (Some why) = ⊥
+StopsBehind front (byte ∷ rest) None = ⊥
+StopsBehind front (byte ∷ rest) (Some (Form place)) = ⊥
+StopsBehind front (byte ∷ rest) (Some (Syntax place)) = (¬ (IsViable (front ++ byte ∷ []))) × (place ≡ length front)
+StopsBehind front (byte ∷ rest) (Some (Long start)) = IsViable (front ++ byte ∷ []) × IsWhole front start × (length front ≡ start + MESSAGE_LIMIT)
+StopsBehind front (byte ∷ rest) (Some (Cut start)) = ⊥
+
+-- the link stops, if it does
+abbrev pub stops_of : ℕ → Option Why → List Event
+stops_of link None = []
+stops_of link (Some why) = Stops link why ∷ []
+
+-- a message that is no request stops its link, and else the link asks and others follow
+abbrev pub GoesOn : ℕ → Placed → (List Event → Type 0) → Option FirstRequest → List Event → Type 0
+GoesOn link message Others None events = events ≡ Stops link (Form message.start) ∷ []
+GoesOn link message Others (Some request) events = (others : List Event) × (events ≡ Asks link request ∷ others) × Others others
+
+-- messages are taken one after another, up to the first that is no request; behind the last stands what stops the link, if
+-- anything does
+abbrev pub AreAsked : List ℕ → ℕ → List ℕ → List ℕ → List Placed → List Event → Type 0
+AreAsked name link front rest [] events = (stop : Option Why) × StopsBehind front rest stop × (events ≡ stops_of link stop)
+AreAsked name link front rest (message ∷ messages) events = (request : Option FirstRequest) × TakenAs name message.envelope request
+    × GoesOn link message (AreAsked name link front rest messages) request events
+
+-- what all the bytes of a link are taken as, where so many of their messages were asked before: the messages behind those,
+-- in a front of the bytes that is let through. It is the longest such front, or has a message that is no request: what
+-- follows that is passed over
+pub record AreHeard (name : List ℕ) (link asked : ℕ) (bytes : List ℕ) (events : List Event) : Type 0 where
+  pub front : List ℕ
+  pub rest : List ℕ
+  pub split : bytes ≡ front ++ rest
+  pub messages : List Placed
+  pub through : AreLet front messages
+  pub taken : AreAsked name link front rest (drop asked messages) events
 
 -- what a delivery on an open link is taken as
-abbrev pub IsHeard : List ℕ → ℕ → List ℕ → Event → Type 0
-IsHeard name link bytes event = (request : Option FirstRequest) × TakenAs name bytes request × (event ≡ heard_as link bytes request)
+abbrev pub IsHeard : List ℕ → List Event → ℕ → List ℕ → List Event → Type 0
+IsHeard name before link bytes events = (others : List Event) × (events ≡ Hears link bytes ∷ others)
+    × AreHeard name link (asked_on before link) (heard before link ++ bytes) others
+
+-- what the end of an open link's input is taken as: it comes behind the last message, or inside one
+abbrev pub IsEnded : List Event → ℕ → List Event → Type 0
+IsEnded before link events = ((messages : List Placed) × Stream (heard before link) messages × (events ≡ Ends link ∷ []))
+    ⊎ ((start : ℕ) × IsInside (heard before link) start × (events ≡ Stops link (Cut start) ∷ []))
 
 -- what an entry after others is taken as
-abbrev pub IsTaken : List ℕ → List Event → Entry → Event → Type 0
-IsTaken name before NewLink event = event ≡ (if is_full before then Full else Opens)
-IsTaken name before (Bytes link bytes) event = MatchBool (is_open before link) (IsHeard name link bytes event) (event ≡ Closed link)
-IsTaken name before (End link) event = event ≡ (if is_open before link then Ends link else Closed link)
+abbrev pub IsTaken : List ℕ → List Event → Entry → List Event → Type 0
+IsTaken name before NewLink events = events ≡ (if is_full before then Full else Opens) ∷ []
+IsTaken name before (Bytes link bytes) events = MatchBool (is_open before link) (IsHeard name before link bytes events) (events ≡ Closed link ∷ [])
+IsTaken name before (End link) events = MatchBool (is_open before link) (IsEnded before link events) (events ≡ Closed link ∷ [])
 
 -- what entries after others are taken as, one after another
 abbrev pub AreTakenAfter : List ℕ → List Event → List Entry → List Event → Type 0
-AreTakenAfter name before [] [] = ⊤
-AreTakenAfter name before [] (event ∷ events) = ⊥
-AreTakenAfter name before (entry ∷ entries) [] = ⊥
-AreTakenAfter name before (entry ∷ entries) (event ∷ events) = IsTaken name before entry event × AreTakenAfter name (before ++ event ∷ []) entries events
+AreTakenAfter name before [] events = events ≡ []
+AreTakenAfter name before (entry ∷ entries) events = (first : List Event) × (others : List Event) × (events ≡ first ++ others)
+    × IsTaken name before entry first × AreTakenAfter name (before ++ first) entries others
 
 -- what the entries of a script are taken as in the space of this name
 abbrev pub AreTaken : List ℕ → List Entry → List Event → Type 0
@@ -111,9 +177,23 @@ AreTaken name entries events = AreTakenAfter name [] entries events
 unfoldable pub message_lines : ℕ → List ℕ → List ℕ
 message_lines link message = codes "<" ++ decimal link ++ codes " " ++ decimal (length message) ++ 10 ∷ [] ++ message ++ 10 ∷ []
 
--- the line of a link that stops at a delivery; its place is that of the delivery's first byte on this link
-unfoldable pub form_line : ℕ → ℕ → List ℕ
-form_line link place = codes "!" ++ decimal link ++ codes " " ++ decimal place ++ codes " form" ++ 10 ∷ []
+-- the place that is told of a stop
+abbrev pub place_of : Why → ℕ
+place_of (Form place) = place
+place_of (Syntax place) = place
+place_of (Long start) = start
+place_of (Cut start) = start
+
+-- the word that is told of it
+unfoldable pub kind_of : Why → List ℕ
+kind_of (Form place) = codes "form"
+kind_of (Syntax place) = codes "syntax"
+kind_of (Long start) = codes "long"
+kind_of (Cut start) = codes "cut"
+
+-- the line of a link that stops
+unfoldable pub stop_line : ℕ → Why → List ℕ
+stop_line link why = codes "!" ++ decimal link ++ codes " " ++ decimal (place_of why) ++ codes " " ++ kind_of why ++ 10 ∷ []
 
 -- the line of an entry whose link isn't open
 unfoldable pub closed_line : ℕ → List ℕ
@@ -123,21 +203,22 @@ closed_line link = codes "!" ++ decimal link ++ codes " 0 closed" ++ 10 ∷ []
 unfoldable pub full_line : ℕ → List ℕ
 full_line count = codes "!0 " ++ decimal count ++ codes " full" ++ 10 ∷ []
 
--- what is written for an entry that comes after others
+-- what is written for an event that comes after others
 abbrev pub answer : List ℕ → List Event → Event → List ℕ
 answer name before Opens = []
 answer name before Full = full_line (counted before)
-answer name before (Asks link bytes request) = message_lines link (canonical (confirm_of (space_after name before) request))
-answer name before (Stops link) = form_line link (length (heard before link))
+answer name before (Hears link bytes) = []
+answer name before (Asks link request) = message_lines link (canonical (confirm_of (space_after name before) request))
+answer name before (Stops link why) = stop_line link why
 answer name before (Ends link) = []
 answer name before (Closed link) = closed_line link
 
--- what is written for entries that come after others, one after another
+-- what is written for events that come after others, one after another
 abbrev pub answers_after : List ℕ → List Event → List Event → List ℕ
 answers_after name before [] = []
 answers_after name before (event ∷ events) = answer name before event ++ answers_after name (before ++ event ∷ []) events
 
--- what is written for all entries
+-- what is written for all events
 abbrev pub answers : List ℕ → List Event → List ℕ
 answers name events = answers_after name [] events
 
@@ -165,29 +246,148 @@ empty_script name = refl
 
 -- while a link is open no other opens
 second_link : (name : List ℕ) → Writes name (NewLink ∷ NewLink ∷ []) (full_line 1 ∷ [])
-second_link name = (Opens ∷ Full ∷ [], (refl, (refl, tt)), refl)
+second_link name = (Opens ∷ Full ∷ [], (Opens ∷ [], Full ∷ [], refl, refl, (Full ∷ [], [], refl, refl, refl)), refl)
 
 -- an entry of a link that was never opened finds it closed
 never_opened : (name : List ℕ) → Writes name (Bytes 1 [] ∷ []) (closed_line 1 ∷ [])
-never_opened name = (Closed 1 ∷ [], (refl, tt), refl)
+never_opened name = (Closed 1 ∷ [], (Closed 1 ∷ [], [], refl, refl, refl), refl)
 
 -- a link that ended stays closed, and its number is not used again
-ended_link : (name : List ℕ) → Writes name (NewLink ∷ End 1 ∷ End 1 ∷ NewLink ∷ End 1 ∷ []) (closed_line 1 ∷ closed_line 1 ∷ [])
-ended_link name = (Opens ∷ Ends 1 ∷ Closed 1 ∷ Opens ∷ Closed 1 ∷ [], (refl, (refl, (refl, (refl, (refl, tt))))), refl)
+ended_link : (name : List ℕ) → Stream [] [] → Writes name (NewLink ∷ End 1 ∷ End 1 ∷ NewLink ∷ End 1 ∷ []) (closed_line 1 ∷ closed_line 1 ∷ [])
+ended_link name stream = (
+  Opens ∷ Ends 1 ∷ Closed 1 ∷ Opens ∷ Closed 1 ∷ [],
+  (Opens ∷ [], _, refl, refl, (Ends 1 ∷ [], _, refl, inl ([], stream, refl), (Closed 1 ∷ [], _, refl, refl, (Opens ∷ [], _, refl, refl, (Closed 1 ∷ [], [], refl, refl, refl))))),
+  refl,
+)
 
--- of two deliveries that are no requests the first stops the link, and the second finds it closed
-stopped_link : (name a b : List ℕ) → TakenAs name a None → Writes name (NewLink ∷ Bytes 1 a ∷ Bytes 1 b ∷ []) (form_line 1 0 ∷ closed_line 1 ∷ [])
-stopped_link name a b none = (Opens ∷ Stops 1 ∷ Closed 1 ∷ [], (refl, ((None, none, refl), (refl, tt))), refl)
+-- bytes that complete no message are heard, and nothing more
+heard_only : (name bytes : List ℕ) → AreLet bytes [] → IsHeard name (Opens ∷ []) 1 bytes (Hears 1 bytes ∷ [])
+heard_only name bytes through = ([], refl, record { front = bytes; rest = []; split = sym (append-nil bytes); messages = []; through = through; taken = (None, tt, refl) })
+
+-- bytes that complete no message write nothing
+unfinished : (name bytes : List ℕ) → AreLet bytes [] → Writes name (NewLink ∷ Bytes 1 bytes ∷ []) []
+unfinished name bytes through = (
+  Opens ∷ Hears 1 bytes ∷ [],
+  (Opens ∷ [], _, refl, refl, (Hears 1 bytes ∷ [], [], refl, heard_only name bytes through, refl)),
+  refl,
+)
+
+-- a message that comes in two pieces is answered behind the second
+in_pieces : (name first second : List ℕ) (message : Placed) (request : FirstRequest) → AreLet first [] → AreLet (first ++ second) (message ∷ [])
+    → TakenAs name message.envelope (Some request)
+    → Writes name (NewLink ∷ Bytes 1 first ∷ Bytes 1 second ∷ []) (message_lines 1 (canonical (confirm_of (empty_space name) request)) ∷ [])
+in_pieces name first second message request begun through taken =
+    let all : heard (Opens ∷ Hears 1 first ∷ []) 1 ++ second ≡ first ++ second = ap (λ l. l ++ second) (append-nil first) in
+    let heard_so : IsHeard name (Opens ∷ Hears 1 first ∷ []) 1 second (Hears 1 second ∷ Asks 1 request ∷ []) = (
+      Asks 1 request ∷ [],
+      refl,
+      record {
+        front = first ++ second;
+        rest = [];
+        split = all ∙ sym (append-nil (first ++ second));
+        messages = message ∷ [];
+        through = through;
+        taken = (Some request, taken, ([], refl, (None, tt, refl)));
+      },
+    )
+    in (
+      Opens ∷ Hears 1 first ∷ Hears 1 second ∷ Asks 1 request ∷ [],
+      (Opens ∷ [], _, refl, refl, (Hears 1 first ∷ [], _, refl, heard_only name first begun, (Hears 1 second ∷ Asks 1 request ∷ [], [], refl, heard_so, refl))),
+      refl,
+    )
+
+-- two requests in one delivery are both answered, the second in the space behind the first
+two_requests : (name bytes : List ℕ) (a b : Placed) (r q : FirstRequest) → AreLet bytes (a ∷ b ∷ []) → TakenAs name a.envelope (Some r) → TakenAs name b.envelope (Some q)
+    → Writes name (NewLink ∷ Bytes 1 bytes ∷ [])
+    (message_lines 1 (canonical (confirm_of (empty_space name) r)) ∷ message_lines 1 (canonical (confirm_of (after (empty_space name) r) q)) ∷ [])
+two_requests name bytes a b r q through s t =
+    let asks = Asks 1 r ∷ Asks 1 q ∷ [] in
+    let heard_so : IsHeard name (Opens ∷ []) 1 bytes (Hears 1 bytes ∷ asks) = (
+      asks,
+      refl,
+      record {
+        front = bytes;
+        rest = [];
+        split = sym (append-nil bytes);
+        messages = a ∷ b ∷ [];
+        through = through;
+        taken = (Some r, s, (Asks 1 q ∷ [], refl, (Some q, t, ([], refl, (None, tt, refl)))));
+      },
+    )
+    in (
+      Opens ∷ Hears 1 bytes ∷ asks,
+      (Opens ∷ [], _, refl, refl, (Hears 1 bytes ∷ asks, [], refl, heard_so, refl)),
+      refl,
+    )
+
+-- a byte with which no stream goes on stops the link at its place
+syntax_link : (name bytes more : List ℕ) (byte : ℕ) → AreLet bytes [] → ¬ (IsViable (bytes ++ byte ∷ []))
+    → Writes name (NewLink ∷ Bytes 1 (bytes ++ byte ∷ more) ∷ End 1 ∷ []) (stop_line 1 (Syntax (length bytes)) ∷ closed_line 1 ∷ [])
+syntax_link name bytes more byte through dead =
+    let stops = Stops 1 (Syntax (length bytes)) ∷ [] in
+    let heard_so : IsHeard name (Opens ∷ []) 1 (bytes ++ byte ∷ more) (Hears 1 (bytes ++ byte ∷ more) ∷ stops) = (
+      stops,
+      refl,
+      record { front = bytes; rest = byte ∷ more; split = refl; messages = []; through = through; taken = (Some (Syntax (length bytes)), (dead, refl), refl) },
+    )
+    in (
+      Opens ∷ Hears 1 (bytes ++ byte ∷ more) ∷ Stops 1 (Syntax (length bytes)) ∷ Closed 1 ∷ [],
+      (Opens ∷ [], _, refl, refl, (Hears 1 (bytes ++ byte ∷ more) ∷ stops, _, refl, heard_so, (Closed 1 ∷ [], [], refl, refl, refl))),
+      refl,
+    )
+
+-- a link that ends inside a message stops, with the message's start
+cut_link : (name bytes : List ℕ) (start : ℕ) → AreLet bytes [] → IsInside bytes start → Writes name (NewLink ∷ Bytes 1 bytes ∷ End 1 ∷ []) (stop_line 1 (Cut start) ∷ [])
+cut_link name bytes start through inside =
+    let cut : IsEnded (Opens ∷ Hears 1 bytes ∷ []) 1 (Stops 1 (Cut start) ∷ []) = inr (start, subst (λ b. IsInside b start) (sym (append-nil bytes)) inside, refl) in (
+      Opens ∷ Hears 1 bytes ∷ Stops 1 (Cut start) ∷ [],
+      (Opens ∷ [], _, refl, refl, (Hears 1 bytes ∷ [], _, refl, heard_only name bytes through, (Stops 1 (Cut start) ∷ [], [], refl, cut, refl))),
+      refl,
+    )
+
+-- a message that is no request stops the link: what follows in the same delivery is passed over, and the next one finds the
+-- link closed
+stopped_link : (name bytes more others : List ℕ) (message : Placed) → AreLet bytes (message ∷ []) → TakenAs name message.envelope None
+    → Writes name (NewLink ∷ Bytes 1 (bytes ++ more) ∷ Bytes 1 others ∷ []) (stop_line 1 (Form message.start) ∷ closed_line 1 ∷ [])
+stopped_link name bytes more others message through none =
+    let stops = Stops 1 (Form message.start) ∷ [] in
+    let heard_so : IsHeard name (Opens ∷ []) 1 (bytes ++ more) (Hears 1 (bytes ++ more) ∷ stops) =
+    (stops, refl, record { front = bytes; rest = more; split = refl; messages = message ∷ []; through = through; taken = (None, none, refl) })
+    in (
+      Opens ∷ Hears 1 (bytes ++ more) ∷ Stops 1 (Form message.start) ∷ Closed 1 ∷ [],
+      (Opens ∷ [], _, refl, refl, (Hears 1 (bytes ++ more) ∷ stops, _, refl, heard_so, (Closed 1 ∷ [], [], refl, refl, refl))),
+      refl,
+    )
 
 -- behind the end of link 1 link 2 opens, and a request on it is answered there
-next_link : (name bytes : List ℕ) (request : FirstRequest) → TakenAs name bytes (Some request)
+next_link : (name bytes : List ℕ) (message : Placed) (request : FirstRequest) → Stream [] [] → AreLet bytes (message ∷ []) → TakenAs name message.envelope (Some request)
     → Writes name (NewLink ∷ End 1 ∷ NewLink ∷ Bytes 2 bytes ∷ []) (message_lines 2 (canonical (confirm_of (empty_space name) request)) ∷ [])
-next_link name bytes request taken = (Opens ∷ Ends 1 ∷ Opens ∷ Asks 2 bytes request ∷ [], (refl, (refl, (refl, ((Some request, taken, refl), tt)))), refl)
+next_link name bytes message request stream through taken =
+    let heard_so : IsHeard name (Opens ∷ Ends 1 ∷ Opens ∷ []) 2 bytes (Hears 2 bytes ∷ Asks 2 request ∷ []) = (
+      Asks 2 request ∷ [],
+      refl,
+      record { front = bytes; rest = []; split = sym (append-nil bytes); messages = message ∷ []; through = through; taken = (Some request, taken, ([], refl, (None, tt, refl))) },
+    )
+    in (
+      Opens ∷ Ends 1 ∷ Opens ∷ Hears 2 bytes ∷ Asks 2 request ∷ [],
+      (Opens ∷ [], _, refl, refl, (Ends 1 ∷ [], _, refl, inl ([], stream, refl), (Opens ∷ [], _, refl, refl, (Hears 2 bytes ∷ Asks 2 request ∷ [], [], refl, heard_so, refl)))),
+      refl,
+    )
 
--- behind 7 bytes link 1 stops at 7
-stop_at_seven : form_line 1 7 ≡ codes "!1 7 form" ++ 10 ∷ []
-unfolding form_line
-stop_at_seven = rw (decimal_digit 7 (omega arith), decimal_digit 1 (omega arith)) refl
+-- messages that begin at 0 and at 7 and are no requests
+form_at : (stop_line 1 (Form 0) ≡ codes "!1 0 form" ++ 10 ∷ []) × (stop_line 1 (Form 7) ≡ codes "!1 7 form" ++ 10 ∷ [])
+unfolding stop_line kind_of
+form_at = rw (decimal_digit 0 (omega arith), decimal_digit 7 (omega arith), decimal_digit 1 (omega arith)) (refl, refl)
+
+-- a byte at 3 with which no message goes on
+syntax_at_three : stop_line 2 (Syntax 3) ≡ codes "!2 3 syntax" ++ 10 ∷ []
+unfolding stop_line kind_of
+syntax_at_three = rw (decimal_digit 3 (omega arith), decimal_digit 2 (omega arith)) refl
+
+-- a message that begins at 0 and is too long, or is cut
+long_and_cut : (stop_line 1 (Long 0) ≡ codes "!1 0 long" ++ 10 ∷ []) × (stop_line 1 (Cut 0) ≡ codes "!1 0 cut" ++ 10 ∷ [])
+unfolding stop_line kind_of
+long_and_cut = rw (decimal_digit 0 (omega arith), decimal_digit 1 (omega arith)) (refl, refl)
 
 -- the line of a link that isn't open
 closed_at_one : closed_line 1 ≡ codes "!1 0 closed" ++ 10 ∷ []

@@ -2,7 +2,7 @@ ghost use Rattle.std.specs.Prelude.{◌≡◌, ℕ, ◌+◌, ◌^◌, ◌<◌, �
 ghost use Rattle.sib_script.specs.declared.entry.Entry.{Entry as ScriptEntry};
 ghost use Rattle.sib_script.specs.Reading.{fresh};
 ghost use Rattle.sib_app.specs.Output.{Event};
-ghost use Rattle.sib_app.specs.Session.{Delivers, Fits, Stands, WritesLast};
+ghost use Rattle.sib_app.specs.Session.{CanAnswer, Delivers, Stands, WritesLast};
 ghost use Rattle.sib_app.specs.declared.ending.Ending.TheVariants.{NoMemory as OutOfMemory};
 
 use crate::ending::Ending;
@@ -41,7 +41,7 @@ impl From<ScriptFault> for Ending {
 }
 
 impl Replay {
-    ghost use Rattle.sib_app.specs.Session.{Replays, Holds, Fails, Stops, Finishes, IsOngoing};
+    ghost use Rattle.sib_app.specs.Session.{Replays, Holds, Fails, Stops, Finishes, IsOngoing, IsHeld};
 
     /// A replay that has read nothing, in a space of this name.
     pub fn new(alloc: Global, name: Text) -> Replay
@@ -121,6 +121,7 @@ impl Replay {
 
     // Answers one entry.
     fn answer<K: Sink>(&mut self, alloc: Global, sink: &mut K, entry: Entry) -> Result<(), Ending>
+        requires { IsHeld entry self.old.reader self.old.session }
         ensures reader { self.new.reader ≡ self.old.reader }
         ensures later { K.faults sink.old ≤ K.faults sink.new }
         ensures ok { (name : List ℕ) (old : Option (List ℕ)) (read : List ℕ)
@@ -141,8 +142,9 @@ fn deliver<K: Sink>(
     sink: &mut K,
     entry: &Entry,
 ) -> Result<(), Ending>
+    requires { CanAnswer session.old entry.now }
     ensures later { K.faults sink.old ≤ K.faults sink.new }
-    ensures delivered { (name : List ℕ) (before : List Event) → Stands name session.old before → Fits before entry.now
+    ensures delivered { (name : List ℕ) (before : List Event) → Stands name session.old before
         → Delivers name before entry.now (K.given sink.old) (K.given sink.new) (K.faults sink.old) (K.faults sink.new) session.new result }
 {
     let written = session.answer(alloc, entry)?;

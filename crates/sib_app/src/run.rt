@@ -26,14 +26,19 @@ const BUFFER: usize = 16384;
 /// Runs the command that the words name, over a source and a sink that are lent to it, and answers its exit status.
 ///
 /// The one form of words is `replay SPACE`, where SPACE is a text of 1 to 1,024 bytes. The script of the source is
-/// read piece by piece: beside the graph, no more is kept of it than one entry and the confirm at hand. All links of a
-/// script speak to one space, and one of them at a time is open. The rows that are read are counted by `steps`; this
-/// form reads none. The runtime is for work on threads, of which there is none yet.
+/// read piece by piece: beside the graph, no more is kept of it than one entry, the message at hand and the lines of one
+/// entry. All links of a script speak to one space, and one of them at a time is open. The bytes that come on a link are a
+/// stream of messages, in any spelling and cut anywhere; a link that stops passes over the rest of its delivery, and isn't
+/// open from then on. The rows that are read are counted by `steps`; this form reads none. The runtime is for work on
+/// threads, of which there is none yet.
 ///
 /// | Line | What it answers |
 /// |---|---|
-/// | `<L N`, and N bytes on lines of their own | a request on link L: its confirm |
-/// | `!L P form` | a delivery on link L, behind P bytes on that link, that is no request: the link stops |
+/// | `<L N`, and N bytes on lines of their own | a request that came on link L: its confirm |
+/// | `!L P form` | the message that begins at byte P of link L, which is no request: the link stops |
+/// | `!L P syntax` | the byte P of link L, with which no message goes on: the link stops |
+/// | `!L P long` | the message that begins at byte P of link L and has more than 4,194,304 bytes: the link stops |
+/// | `!L P cut` | the end of link L inside the message that begins at its byte P |
 /// | `!L 0 closed` | a delivery on link L, or its end, where it isn't open |
 /// | `!0 C full` | a link that would open, where C are open and no more may be |
 /// | `= U T 0` | the end of the script: U updates were accepted, and the graph has T triples |

@@ -13,7 +13,8 @@ loop-count-init g c = record {
 pub loop-count-preserved : goal.loop-count-preserved
 loop-count-preserved g c =
     let (read, turns) = c.loop-count.invariant.read in
-    let (piece, more) = c.in-Ok.ensures.ok c.args.name _ read turns in
+    let (piece, more) = c.in-Ok.ensures.ok c.args.name
+    (record { left = g.S.Source.left c.args.source.now; given = g.K.Sink.given c.args.sink.now; read_faults = g.S.Source.faults c.args.source.now; write_faults = g.K.Sink.faults c.args.sink.now }) read turns in
     record {
       some = omega (arith, c.in-Ok.ensures.within);
       read = (read ++ piece, more);
@@ -23,4 +24,5 @@ loop-count-preserved g c =
 pub returns-in-Err : goal.returns-in-Err
 returns-in-Err g c =
     let (read, turns) = c.loop-count.invariant.read in
-    c.in-Err.ensures.err c.args.name _ read turns
+    c.in-Err.ensures.err c.args.name
+    (record { left = g.S.Source.left c.args.source.now; given = g.K.Sink.given c.args.sink.now; read_faults = g.S.Source.faults c.args.source.now; write_faults = g.K.Sink.faults c.args.sink.now }) read turns

@@ -4,6 +4,18 @@ use Rattle.sib_app.specs.Session.{Stops}
 use Rattle.sib_app.proofs.FeedLemmas.{feeds_some, refused_stops, fails_stop, untold, held_entry, goes_on}
 use Rattle.sib_app.proofs.replay.Replay.feed_some.Goals as goal
 
+-- the entry that was read is held
+pub answer-requires : goal.answer-requires
+answer-requires g c =
+    let (name, read, h) = c.requires.ongoing in
+    let count = c.in_ok-count.count in
+    let bytes = c.args.bytes.now in (
+      name,
+      read ++ take count bytes,
+      held_entry name None None read bytes c.args.self.now.reader c.feed.new.self c.next.new.self c.args.self.now.session count c.in-Some.entry h
+          c.in_ok-count.ensures.ok (sym c.next.ensures.entry ∙ c.in-Some.is) c.next.ensures.taken c.requires.fits,
+    )
+
 -- a refused call of the reader stops the replay
 pub returns-in_err-count-clause-err : goal.returns-in_err-count-clause-err
 returns-in_err-count-clause-err g c name old read h =
