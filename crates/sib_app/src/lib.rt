@@ -3,6 +3,7 @@
 
 mod ending;
 mod hearing;
+mod laws;
 mod lines;
 mod replay;
 mod run;
@@ -12,4 +13,5 @@ mod tests;
 mod why;
 
 pub use ending::{Ending, INPUT_LIMIT};
+pub use laws::outputs_are_told;
 pub use run::sib_run;
