@@ -20,34 +20,26 @@ for script in *.script; do
     fi
 done
 
-# A JOIN with credentials of so many letters, delivered 65,536 bytes at a time.
-scratch="$(mktemp -d)" || exit 1
-trap 'rm -rf "$scratch"' EXIT
+# A JOIN with credentials of so many letters, delivered so many bytes at a time.
 long_join() {
-    rm -f "$scratch"/piece.*
+    echo "+"
     {
         printf '<SSAP_message><message_type>REQUEST</message_type><transaction_type>JOIN</transaction_type>'
         printf '<transaction_id>1</transaction_id><node_id>k</node_id><space_id>X</space_id><parameter name="credentials">'
         head -c "$1" /dev/zero | tr '\0' a
         printf '</parameter></SSAP_message>'
-    } | split -b 65536 -a 3 - "$scratch/piece."
-    echo "+"
-    for piece in "$scratch"/piece.*; do
-        printf '>1 %d\n' "$(stat -c %s "$piece")"
-        cat "$piece"
-        echo
-    done
+    } | fold -b -w "$2" | awk '{ printf ">1 %d\n%s\n", length($0), $0 }'
 }
 
 # The longest message that may be, of 4,194,304 bytes, is answered as a short one is; one of a byte more is too long.
-long_join 4194080 >"$scratch/longest"
-long_join 4194081 >"$scratch/longer"
-if "$program" replay X <"$scratch/longest" | cmp -s - <(head -n 2 lamp.expected; echo "= 0 0 0") &&
-    "$program" replay X <"$scratch/longer" | cmp -s - <(printf '!1 0 long\n= 0 0 0\n'); then
-    passed=$((passed + 1))
-else
-    echo "examples: the longest message, or one of a byte more, is answered otherwise"
-    failed=$((failed + 1))
-fi
+for count in 65536 7 1; do
+    if long_join 4194080 "$count" | "$program" replay X | cmp -s - <(head -n 2 lamp.expected; echo "= 0 0 0") &&
+        long_join 4194081 "$count" | "$program" replay X | cmp -s - <(printf '!1 0 long\n= 0 0 0\n'); then
+        passed=$((passed + 1))
+    else
+        echo "examples: the longest message, or one of a byte more, $count bytes at a time, is answered otherwise"
+        failed=$((failed + 1))
+    fi
+done
 echo "examples: $passed passed, $failed failed"
 [ "$failed" -eq 0 ]
