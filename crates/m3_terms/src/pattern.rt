@@ -1,5 +1,5 @@
 ghost use Rattle.std.specs.Prelude.{◌≡◌, IfOk, IsOk, IsTrue, ◌↔◌};
-ghost use Rattle.m3_terms.specs.Pattern.{Admits, Fits};
+ghost use Rattle.m3_terms.specs.Pattern.{Admits, Fits, term_of, triple_of};
 
 use crate::{NoMemory, Term, Triple};
 
@@ -29,6 +29,16 @@ impl Slot {
         }
     }
 
+    /// The term of this place, or `None` where it is the wildcard.
+    pub fn into_term(self) -> Option<Term>
+        ensures { result ≡ term_of self }
+    {
+        match self {
+            Slot::Any => None,
+            Slot::Is(term) => Some(term),
+        }
+    }
+
     /// An equal slot. A wildcard takes no memory.
     pub fn copy(&self) -> Result<Slot, NoMemory>
         ensures equal { IfOk result (λ slot. slot ≡ self.now) }
@@ -49,6 +59,18 @@ impl Pattern {
         self.subject.admits(&triple.subject)
             && self.predicate.admits(&triple.predicate)
             && self.object.admits(&triple.object)
+    }
+
+    /// The triple that this pattern is, or `None` where a place is the wildcard or the subject or the predicate is a
+    /// literal.
+    pub fn into_triple(self) -> Option<Triple>
+        ensures { result ≡ triple_of self }
+    {
+        Triple::new(
+            self.subject.into_term()?,
+            self.predicate.into_term()?,
+            self.object.into_term()?,
+        )
     }
 
     /// An equal pattern.

@@ -137,6 +137,7 @@ fn fits_patterns(rt: HostRuntime) -> Result<(), Fail> {
     assert!(rt; pattern.copy()?.fits(&triple));
     assert!(rt; !pattern.subject.admits(&triple.object));
     assert!(rt; pattern.object.copy()?.admits(&triple.object));
+    assert!(rt; pattern.into_triple().is_none());
     Ok(())
 }
 
