@@ -10,7 +10,7 @@ use Rattle.ssap_grammar.proofs.StreamParts.{wholes_once, streams_are_whole, viab
 use Rattle.ssap_grammar.proofs.StreamEnds.{unfinished_begins}
 use Rattle.ssap_decode.specs.declared.framed.TheConstants.{MESSAGE_LIMIT}
 use Rattle.first_requests.proofs.Taken.{taken_once}
-use Rattle.sib_script.proofs.ScriptLaws.{fronts, Shorter, Longer}
+use Rattle.m3_terms.proofs.Lists.{fronts, Shorter, Longer}
 use Rattle.sib_app.specs.declared.why.Why.{Why}
 use Rattle.sib_app.specs.declared.why.Why.TheVariants.{Form, Syntax, Long, Cut}
 use Rattle.sib_app.specs.Output.{Event, Asks, Stops, heard, IsShort, AreLet, StopsBehind, stops_of, AreAsked, AreHeard, IsEnded}

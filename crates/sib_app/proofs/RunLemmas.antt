@@ -6,8 +6,8 @@ use Rattle.sib_io.specs.Causes.{Rose, AppendsPart}
 use Rattle.sib_io.proofs.KnownLemmas.{whole_part, kept_part, part_kept}
 use Rattle.sib_script.specs.declared.entry.Entry.{Entry}
 use Rattle.sib_script.specs.Script.{entry_spelling, script_spelling, Splits, IsScript, BeginsScript}
-use Rattle.sib_script.proofs.ScriptLaws.{splits_script, splits_unique, inside_no_script, script_spelling-push, entries_push, fronts, Shorter, Longer}
-use Rattle.m3_terms.proofs.Lists.{heads_same, tails_same}
+use Rattle.sib_script.proofs.ScriptLaws.{splits_script, splits_unique, inside_no_script, script_spelling-push, entries_push}
+use Rattle.m3_terms.proofs.Lists.{heads_same, tails_same, fronts, Shorter, Longer}
 use Rattle.sib_app.specs.Output.{answers, farewell, AreTaken, IsOutput}
 use Rattle.sib_app.specs.Ending.{Outside, Ended, Outcome, GivesPart, GivesAnswers, GivesAll, GivesBefore, IsReplay, status_of}
 use Rattle.sib_app.specs.Session.{GivesFront}

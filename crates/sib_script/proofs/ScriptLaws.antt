@@ -6,7 +6,7 @@ use Rattle.std.proofs.lemmas.Str.Parse.{digit_from_value, numerals_by_value, tel
 use Rattle.std.specs.Fmt.{decimal}
 use Rattle.std.specs.Str.Parse.{AllDigits}
 use Rattle.std.specs.Char.{digit_value}
-use Rattle.m3_terms.proofs.Lists.{heads_same, tails_same}
+use Rattle.m3_terms.proofs.Lists.{heads_same, tails_same, fronts, Shorter, Longer}
 use Rattle.sib_script.specs.Script.{entry_spelling, script_spelling, IsEntry, AreEntries, IsScript, BeginsScript, Splits}
 use Rattle.sib_script.specs.Reading.{IsPart, IsNoPart}
 use Rattle.sib_script.specs.declared.entry.Entry.{Entry}
@@ -240,21 +240,6 @@ left_begins b es unread a h (inr n) = (
 -- what a reader holds splits the bytes, and goes on to some script
 pub splits_reading : (b : List ℕ) (es : List Entry) (unread : List ℕ) → AreEntries es → b ≡ script_spelling es ++ unread → (IsPart unread ⊎ (unread ≡ [])) → Splits b es unread × BeginsScript b
 splits_reading b es unread a h p = (left_splits b es unread a h p, left_begins b es unread a h p)
-
--- of two fronts of a list one is a front of the other
-pub data Fronts (a x b y : List ℕ) : Type 0 where
-  Shorter : (m : List ℕ) → a ++ m ≡ b → x ≡ m ++ y → Fronts a x b y
-  Longer : (m : List ℕ) → b ++ m ≡ a → m ++ x ≡ y → Fronts a x b y
-
-pub fronts : (a x b y : List ℕ) → a ++ x ≡ b ++ y → Fronts a x b y
-fronts [] x b y h = Shorter b refl h
-fronts (a ∷ s) x [] y h = Longer (a ∷ s) refl h
-fronts (a ∷ s) x (b ∷ t) y h =
-    let same = heads_same a b (s ++ x) (t ++ y) h in
-    elim (fronts s x t y (tails_same a b (s ++ x) (t ++ y) h)) [
-      | Shorter m p q ↦ Shorter m (cc) q
-      | Longer m p q ↦ Longer m (cc) q
-    ]
 
 -- a byte that no entry goes on with is in no spelling of an entry, whatever follows it
 pub stuck_no_entry : (unread : List ℕ) (c : ℕ) (more : List ℕ) (e : Entry) (rest : List ℕ) → IsLeft unread → IsNoPart (unread ++ c ∷ []) → IsEntry e → unread ++ c ∷ more ≡ entry_spelling e ++ rest → ⊥

@@ -8,7 +8,8 @@ use Rattle.ssap_machine.specs.Progress.{IsPending}
 use Rattle.ssap_machine.specs.declared.symbol.Symbol.{Symbol}
 use Rattle.ssap_machine.specs.declared.symbol.Symbol.TheVariants.{Message}
 use Rattle.ssap_machine.proofs.Steps.{walks_join}
-use Rattle.ssap_machine.proofs.Walking.{told_once, dead_end, Shorter, Longer, fronts}
+use Rattle.m3_terms.proofs.Lists.{fronts, Shorter, Longer}
+use Rattle.ssap_machine.proofs.Walking.{told_once, dead_end}
 use Rattle.ssap_machine.proofs.Completions.{goes_on}
 use Rattle.ssap_decode.specs.Unfinished.{Sticks, Halts, Reads, IsUnfinished}
 use Rattle.ssap_decode.specs.declared.walk.Halt.{Halt}
@@ -48,8 +49,8 @@ joined : (front rest piece ahead pending left : List ℕ) (stack new : List Symb
     → IsPending stack rest → rest ++ piece ≡ (ahead ++ pending) ++ left → Walks stack ahead new → Halts new pending left halt
     → Joined rest piece (ahead ++ pending) left halt
 joined front rest piece ahead pending left stack new halt w goes p e v h = elim (fronts (ahead ++ pending) left rest piece (sym e)) [
-  | Longer m q r ↦ record { part = m; split = r; is = sym q; some = λ whole. some whole m q r }
-  | Shorter m q r ↦ shorter m q r
+  | Longer m q r ↦ record { part = m; split = sym r; is = q; some = λ whole. some whole m (sym q) (sym r) }
+  | Shorter m q r ↦ shorter m (sym q) r
 ]
   where
     more : (more : List ℕ) × (0 < length more) × IsMessage (front ++ (rest ++ more))

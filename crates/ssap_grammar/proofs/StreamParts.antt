@@ -8,7 +8,7 @@ use Rattle.ssap_grammar.specs.Characters.{IsWhite}
 use Rattle.ssap_grammar.specs.Message.{ReadsMessage, Spells}
 use Rattle.ssap_grammar.specs.Stream.{Placed, Messages, Stream, IsViable, IsPlace, IsWholeOf, IsWhole, IsInside}
 use Rattle.ssap_grammar.specs.Laws.{IsPart, IsDeadEnd}
-use Rattle.m3_terms.proofs.Lists.{heads_same, tails_same}
+use Rattle.m3_terms.proofs.Lists.{heads_same, tails_same, fronts, Shorter, Longer}
 use Rattle.ssap_grammar.proofs.Fronts.{Head, more_behind}
 use Rattle.ssap_grammar.proofs.Characters.{NoSpace, high_no_space, spaces_meet, no_spaces}
 use Rattle.ssap_grammar.proofs.Messages.{message_both, message_alone, message_head, none_begins}
@@ -113,21 +113,6 @@ part_inside w part l x p some = record {
       absurd (omega (arith, most, some, length-append w part));
   whole = (l, part_whole w part l x p);
 }
-
--- of two fronts of a list one is a front of the other
-pub data Fronts (a x b y : List ℕ) : Type 0 where
-  Shorter : (m : List ℕ) → a ++ m ≡ b → x ≡ m ++ y → Fronts a x b y
-  Longer : (m : List ℕ) → b ++ m ≡ a → m ++ x ≡ y → Fronts a x b y
-
-fronts : (a x b y : List ℕ) → a ++ x ≡ b ++ y → Fronts a x b y
-fronts [] x b y h = Shorter b refl h
-fronts (a ∷ s) x [] y h = Longer (a ∷ s) refl h
-fronts (a ∷ s) x (b ∷ t) y h =
-    let same = heads_same a b (s ++ x) (t ++ y) h in
-    elim (fronts s x t y (tails_same a b (s ++ x) (t ++ y) h)) [
-      | Shorter m p q ↦ Shorter m (cc) q
-      | Longer m p q ↦ Longer m (cc) q
-    ]
 
 -- behind a part no word goes on with a byte with which no message goes on
 dead_word : (part more word behind : List ℕ) (byte : ℕ) (e : Envelope) → IsPart part → IsDeadEnd part byte → Spells word e

@@ -1,7 +1,7 @@
 -- How walks go on: one behind another, over more symbols, and from the bytes alone.
 use Rattle.std.proofs.Common.{◌≡◌, ◌⊎◌, inl, inr, ℕ, ◌↔◌, List, [], ◌∷◌, ◌++◌, length, refl, sym, ◌∙◌, ap, subst, append_assoc, length-append, arith}
 use Rattle.std.proofs.lemmas.List.{append-nil}
-use Rattle.m3_terms.proofs.Lists.{heads_same, tails_same}
+use Rattle.m3_terms.proofs.Lists.{heads_same, tails_same, fronts, Shorter, Longer}
 use Rattle.ssap_machine.specs.Machine.{Begins, Walks, Stay, Step, Accepts, IsMessage, IsHalf, IsStuck}
 use Rattle.ssap_machine.specs.Progress.{IsPending}
 use Rattle.ssap_machine.specs.declared.symbol.Symbol.{Symbol}
@@ -100,21 +100,6 @@ told_from start bytes more walk x = accepts_none more (walks_on start [] bytes m
 pub told_once : (bytes more : List ℕ) → Walks (Message ∷ []) bytes [] → IsMessage (bytes ++ more) → more ≡ []
 told_once bytes more walk x = told_from (Message ∷ []) bytes more walk x
 
--- of two fronts of a list one is a front of the other
-pub data Fronts (a x b y : List ℕ) : Type 0 where
-  Shorter : (m : List ℕ) → b ≡ a ++ m → x ≡ m ++ y → Fronts a x b y
-  Longer : (m : List ℕ) → a ≡ b ++ m → y ≡ m ++ x → Fronts a x b y
-
-pub fronts : (a x b y : List ℕ) → a ++ x ≡ b ++ y → Fronts a x b y
-fronts [] x b y e = Shorter b refl e
-fronts (a ∷ s) x [] y e = Longer (a ∷ s) refl (sym e)
-fronts (a ∷ s) x (b ∷ t) y e =
-    let same = heads_same a b (s ++ x) (t ++ y) e in
-    elim (fronts s x t y (tails_same a b (s ++ x) (t ++ y) e)) [
-      | Shorter m p q ↦ Shorter m (cc) q
-      | Longer m p q ↦ Longer m (cc) q
-    ]
-
 -- a lexeme of the first symbol is no front of what is pending
 pending_longer : (symbol : Symbol) (symbols : List Symbol) (pending word m : List ℕ) (pushed : List Symbol) → IsPending (symbol ∷ symbols) pending
     → Begins symbol word pushed → pending ≡ word ++ m → ⊥
@@ -135,14 +120,14 @@ dead_from start bytes pending more byte [] walk p stuck x = stuck
 dead_from start bytes pending more byte (symbol ∷ symbols) walk p stuck x =
     let b = accepts_begins symbol symbols (pending ++ byte ∷ more) (walks_on start (symbol ∷ symbols) bytes (pending ++ byte ∷ more) walk x) in
     elim (fronts (pending ++ byte ∷ []) more b.word b.rest (append_assoc pending (byte ∷ []) more ∙ b.is)) [
-      | Shorter m e f ↦ stuck m b.pushed (subst (λ w. Begins symbol w b.pushed) e b.begins)
-      | Longer m e f ↦ before b.word b.pushed b.begins m e
+      | Shorter m e f ↦ stuck m b.pushed (subst (λ w. Begins symbol w b.pushed) (sym e) b.begins)
+      | Longer m e f ↦ before b.word b.pushed b.begins m (sym e)
     ]
   where
     before : (word : List ℕ) (pushed : List Symbol) → Begins symbol word pushed → (m : List ℕ) → pending ++ byte ∷ [] ≡ word ++ m → ⊥
     before word pushed begins m e = elim (fronts pending (byte ∷ []) word m e) [
-      | Shorter k a f ↦ ends k a f
-      | Longer k a f ↦ pending_longer symbol symbols pending word k pushed p begins a
+      | Shorter k a f ↦ ends k (sym a) f
+      | Longer k a f ↦ pending_longer symbol symbols pending word k pushed p begins (sym a)
     ]
       where
         ends : (k : List ℕ) → word ≡ pending ++ k → byte ∷ [] ≡ k ++ m → ⊥
