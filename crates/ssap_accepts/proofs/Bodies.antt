@@ -12,7 +12,7 @@ use Rattle.ssap_grammar.specs.Characters.{is_white, IsWhite, Spaces}
 use Rattle.ssap_grammar.specs.Text.{IsPlain, references, ReadsPiece, ReadsText}
 use Rattle.ssap_grammar.specs.Triples.{ReadsTriple}
 use Rattle.ssap_grammar.specs.Parameter.{ReadsBody}
-use Rattle.ssap_grammar.proofs.Characters.{white_small}
+use Rattle.ssap_grammar.proofs.Characters.{white_small, no_spaces}
 use Rattle.ssap_machine.specs.Words.{Except, words_of, starting, finishing}
 use Rattle.ssap_machine.specs.Options.{options, content, may_be_empty}
 use Rattle.ssap_machine.specs.declared.symbol.Symbol.TheVariants as symbol
@@ -24,9 +24,10 @@ use Rattle.ssap_accepts.proofs.Cdata.{Section, cdata_means}
 use Rattle.ssap_accepts.proofs.Texts.{plain_piece, reference_piece, section_piece, text_means}
 use Rattle.ssap_accepts.proofs.Elements.{Fills, Tail, open_means, rest_element, element_rest, rest_plain, plain_rest}
 use Rattle.ssap_accepts.proofs.Optionals.{TheAttribute}
-use Rattle.ssap_accepts.proofs.Contents.{Listed, no_spaces, fills_empty}
+use Rattle.ssap_accepts.proofs.Contents.{fills_empty}
 use Rattle.ssap_accepts.proofs.Triples.{fills_triple_list, triple_list_value, value_triple_list}
 use Rattle.ssap_accepts.proofs.Tables.{TableParts, table_means, table_value, value_table}
+use Rattle.ssap_grammar.proofs.Contents.{Listed}
 
 -- a byte of white space is one of four
 white_cases : (byte : ℕ) → IsWhite byte → (byte ≡ 32) ⊎ ((byte ≡ 9) ⊎ ((byte ≡ 13) ⊎ (byte ≡ 10)))

@@ -14,13 +14,7 @@ use Rattle.ssap_machine.specs.declared.symbol.Symbol.{Symbol}
 use Rattle.ssap_machine.specs.declared.symbol.Symbol.TheVariants.{Cdata}
 use Rattle.ssap_accepts.proofs.Goes.{Goes, Runs, lift}
 use Rattle.ssap_accepts.proofs.Means.{Means}
-
--- no `]]>` among these characters
-abbrev pub Endless : List ℕ → Type 0
-Endless characters = (before after : List ℕ) → characters ≢ before ++ 93 ∷ 93 ∷ 62 ∷ after
-
-endless_tail : (c : ℕ) (cs : List ℕ) → Endless (c ∷ cs) → Endless cs
-endless_tail c cs h before after e = h (c ∷ before) after (ap (λ l. c ∷ l) e)
+use Rattle.ssap_grammar.proofs.Texts.{Endless, endless_tail}
 
 -- none among these and one that begins none before them
 endless_first : (c : ℕ) (cs : List ℕ) → Endless cs → ((after : List ℕ) → c ∷ cs ≢ 93 ∷ 93 ∷ 62 ∷ after) → Endless (c ∷ cs)

@@ -23,15 +23,8 @@ use Rattle.ssap_accepts.proofs.Words.{white_some, Finish, ends_mean, next_means,
 use Rattle.ssap_accepts.proofs.Attributes.{some_spaces}
 use Rattle.ssap_accepts.proofs.Texts.{text_means}
 use Rattle.ssap_accepts.proofs.Elements.{Fills, Tail, rest_element, element_rest}
-
--- nothing is left of nothing
-append_nothing : (first second : List ℕ) → [] ≡ first ++ second → second ≡ []
-append_nothing [] second e = sym e
-append_nothing (byte ∷ first) second e = absurd (cc)
-
--- white space of nothing leaves nothing
-spaces_nothing : (rest : List ℕ) → Spaces [] rest → rest ≡ []
-spaces_nothing rest x = append_nothing x.white rest x.reads
+use Rattle.ssap_grammar.proofs.Characters.{no_spaces, spaces_nothing}
+use Rattle.ssap_grammar.proofs.Contents.{Listed}
 
 -- the front needs some bytes
 abbrev pub Needs : Front → Type 0
@@ -109,16 +102,9 @@ fills_table name list table e is same some =
       second = record { middle = x.middle; first = x.first.second.second; second = x.second };
     }
 
--- white space, and things of one kind with white space behind each
-abbrev pub Listed : {A : Type 0} → (A → Front) → List A → Front
-Listed One values = Then Spaces (front.Many (λ value. Then (One value) Spaces) values)
-
 -- white space and such things in any order
 abbrev pub Mixed : {A : Type 0} → (A → Front) → Front
 Mixed One = AnyOf (front.Many (λ (_ : Unit {0}). Either (Lex White) (AnyOf One)))
-
-pub no_spaces : (bytes : List ℕ) → Spaces bytes bytes
-no_spaces bytes = record { white = []; each = tt; reads = refl }
 
 -- a byte of white space before others
 pub white_spaces : Into (Then (Lex White) Spaces) Spaces

@@ -21,10 +21,12 @@ use Rattle.ssap_accepts.proofs.Means.{AnyOf, Into}
 use Rattle.ssap_accepts.proofs.Choices.{into_same, into_then, lex_word, word_lex, takes_split}
 use Rattle.ssap_accepts.proofs.Words.{ends_mean}
 use Rattle.ssap_accepts.proofs.Elements.{Fills, open_means, rest_plain, plain_rest, into_element, element_content}
-use Rattle.ssap_accepts.proofs.Contents.{Listed, no_spaces, white_spaces}
+use Rattle.ssap_accepts.proofs.Contents.{white_spaces}
 use Rattle.ssap_accepts.proofs.Heads.{fills_message_type, fills_transaction_type, fills_transaction_id, fills_node_id, fills_space_id}
 use Rattle.ssap_accepts.proofs.Parameters.{rest_means, parameter_value}
 use Rattle.ssap_accepts.proofs.Left.{Left, message_first, transaction_first, transaction_id_first, node_id_first, space_id_first, parameter_first, left_none}
+use Rattle.ssap_grammar.proofs.Characters.{no_spaces}
+use Rattle.ssap_grammar.proofs.Contents.{Chosen, Listed}
 
 -- the end of a message
 abbrev pub Last : Front
@@ -98,13 +100,10 @@ head_goes false name next more bytes middle rest fills e x y =
     (t.0, inl (record { middle = r.middle; first = word_lex (starting name) bytes r.middle r.first; second = t.1 }))
 
 -- the words of heads as values
-abbrev pub Chosen : {A : Type 0} → List (List ℕ × A) → Front
-Chosen table = Then Spaces (Then (AnyOf (OneOf table)) Spaces)
+abbrev pub AnyChosen : {A : Type 0} → List (List ℕ × A) → Front
+AnyChosen table = Then Spaces (Then (AnyOf (OneOf table)) Spaces)
 
-abbrev pub ChoiceOf : {A : Type 0} → List (List ℕ × A) → A → Front
-ChoiceOf table value = Then Spaces (Then (OneOf table value) Spaces)
-
-chosen_value : {A : Type 0} (table : List (List ℕ × A)) → Into (Chosen table) (AnyOf (ChoiceOf table))
+chosen_value : {A : Type 0} (table : List (List ℕ × A)) → Into (AnyChosen table) (AnyOf (Chosen table))
 chosen_value table bytes rest x = (
   x.second.first.0,
   record {
@@ -114,11 +113,11 @@ chosen_value table bytes rest x = (
   },
 )
 
-table_value : {A : Type 0} (tag : List ℕ) (table : List (List ℕ × A)) → Into (ReadsElement tag Nothing (Chosen table)) (AnyOf (λ value. ReadsElement tag Nothing (ChoiceOf table value)))
+table_value : {A : Type 0} (tag : List ℕ) (table : List (List ℕ × A)) → Into (ReadsElement tag Nothing (AnyChosen table)) (AnyOf (λ value. ReadsElement tag Nothing (Chosen table value)))
 table_value tag table bytes rest x =
-    element_content tag {C = ChoiceOf table} bytes rest (into_element tag (into_same Nothing) (chosen_value table) bytes rest x)
+    element_content tag {C = Chosen table} bytes rest (into_element tag (into_same Nothing) (chosen_value table) bytes rest x)
 
-pub value_table : {A : Type 0} (tag : List ℕ) (table : List (List ℕ × A)) (value : A) → Into (ReadsElement tag Nothing (ChoiceOf table value)) (ReadsElement tag Nothing (Chosen table))
+pub value_table : {A : Type 0} (tag : List ℕ) (table : List (List ℕ × A)) (value : A) → Into (ReadsElement tag Nothing (Chosen table value)) (ReadsElement tag Nothing (AnyChosen table))
 value_table tag table value =
     into_element tag (into_same Nothing) (into_then (into_same Spaces) (into_then (λ b r y. (value, y)) (into_same Spaces)))
 

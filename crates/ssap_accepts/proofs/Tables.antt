@@ -26,7 +26,9 @@ use Rattle.ssap_accepts.proofs.Texts.{quote_means}
 use Rattle.ssap_accepts.proofs.Attributes.{attribute_means, into_attribute, attribute_any, any_attribute, into_quoted}
 use Rattle.ssap_accepts.proofs.Elements.{Fills, Tail, open_means, open_plain, element_means, rest_plain, plain_rest, into_element, element_any, element_content}
 use Rattle.ssap_accepts.proofs.Optionals.{TheAttribute, optional_means}
-use Rattle.ssap_accepts.proofs.Contents.{Listed, no_spaces, many_means, fills_text, fills_list, fills_empty, fills_needing, spaced_needs, element_needs}
+use Rattle.ssap_accepts.proofs.Contents.{many_means, fills_text, fills_list, fills_empty, fills_needing, spaced_needs, element_needs}
+use Rattle.ssap_grammar.proofs.Characters.{no_spaces}
+use Rattle.ssap_grammar.proofs.Contents.{Listed}
 
 -- white space before a finishing tag is the content's
 pub last_spaces : {P F : Front} → Into (Then (Then Spaces P) (Then Spaces F)) (Then (Then Spaces (Then P Spaces)) F)

@@ -22,7 +22,8 @@ use Rattle.ssap_accepts.proofs.Words.{Finish, next_word, finishes_mean, table_wo
 use Rattle.ssap_accepts.proofs.Attributes.{attribute_means, words_value, into_attribute, attribute_any, into_quoted, quoted_any}
 use Rattle.ssap_accepts.proofs.Elements.{Fills, Tail, open_means, open_plain, rest_element, element_rest, into_element, element_any, element_content}
 use Rattle.ssap_accepts.proofs.Optionals.{optional_element_means}
-use Rattle.ssap_accepts.proofs.Contents.{Listed, many_means, fills_text, fills_list, fills_needing, spaced_needs, element_needs}
+use Rattle.ssap_accepts.proofs.Contents.{many_means, fills_text, fills_list, fills_needing, spaced_needs, element_needs}
+use Rattle.ssap_grammar.proofs.Contents.{Listed}
 
 -- the attribute `type` by its words
 abbrev pub TypeWords : List Kind → Front

@@ -5,7 +5,7 @@ use Rattle.std.proofs.lemmas.Str.{encode_same}
 use Rattle.ssap_grammar.specs.Front.{Front}
 use Rattle.ssap_grammar.specs.Characters.{Spaces, SomeSpaces, IsQuote, Quoted}
 use Rattle.ssap_grammar.specs.Text.{references}
-use Rattle.ssap_grammar.specs.Attribute.{Equals, ReadsAttribute, ReadsValuePiece, ReadsValueText, ReadsAttvalue, QuotedWord}
+use Rattle.ssap_grammar.specs.Attribute.{IsLettered, Equals, ReadsAttribute, ReadsValuePiece, ReadsValueText, ReadsAttvalue, QuotedWord}
 use Rattle.ssap_grammar.specs.Attribute.ReadsValuePiece.{Plain, Reference}
 use Rattle.m3_terms.proofs.Lists.{heads_same}
 use Rattle.ssap_grammar.proofs.Fronts.{Any, Head, Meet, Leads, Alone, meet_any, meet_map, word_meet, then_meet, then_alone, word_alone, many_meet, many_alone, are_apart, oneof_meet, oneof_alone, ReadsWord, word_map}
@@ -26,15 +26,8 @@ pub record TagEnds (bytes : List ℕ) : Type 0 where
   pub small : byte < 65
   pub solid : 33 ≤ byte
 
--- the name of an attribute begins with a small letter
-pub record IsLettered (name : List ℕ) : Type 0 where
-  pub byte : ℕ
-  pub more : List ℕ
-  pub is : name ≡ byte ∷ more
-  pub high : 97 ≤ byte
-
 -- what begins with a name does not begin with white space
-name_no_space : (name bytes rest : List ℕ) → IsLettered name → bytes ≡ name ++ rest → NoSpace bytes
+pub name_no_space : (name bytes rest : List ℕ) → IsLettered name → bytes ≡ name ++ rest → NoSpace bytes
 name_no_space name bytes rest l e =
     high_no_space l.byte (l.more ++ rest) bytes (let h = l.high in omega arith) (e ∙ ap (λ n. n ++ rest) l.is)
 

@@ -57,6 +57,14 @@ some_spaces_meet = record {
 pub no_spaces : (bytes : List ℕ) → Spaces bytes bytes
 no_spaces bytes = record { white = []; each = tt; reads = refl }
 
+-- white space of nothing leaves nothing
+pub spaces_nothing : (rest : List ℕ) → Spaces [] rest → rest ≡ []
+spaces_nothing rest x = go x.white x.reads
+  where
+    go : (white : List ℕ) → [] ≡ white ++ rest → rest ≡ []
+    go [] e = sym e
+    go (byte ∷ white) e = absurd (cc)
+
 pub spaces_alone : Alone Spaces
 spaces_alone = record {
   own = λ bytes rest x. record { word = x.white; is = x.reads; again = λ behind. record { white = x.white; each = x.each; reads = refl } };

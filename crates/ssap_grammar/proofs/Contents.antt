@@ -4,12 +4,13 @@ use Rattle.std.specs.Prelude.{nat_le}
 use Rattle.std.proofs.lemmas.Bool.{and_parts}
 use Rattle.ssap_grammar.specs.Front.{Front, Nothing, Then, Many, OneOf}
 use Rattle.ssap_grammar.specs.Characters.{Spaces}
+use Rattle.ssap_grammar.specs.Attribute.{IsLettered}
 use Rattle.ssap_grammar.specs.Element.{ReadsElement}
 use Rattle.m3_terms.proofs.Lists.{heads_same, tails_same}
 use Rattle.ssap_grammar.proofs.Fronts.{Any, Meet, Leads, Alone, meet_where, meet_map, nothing_meet, then_meet, then_alone, many_leads, many_meet, many_alone, are_apart, oneof_meet, oneof_alone}
 use Rattle.ssap_grammar.proofs.Characters.{Stops, NoSpace, high_no_space, spaces_meet, spaces_alone}
 use Rattle.ssap_grammar.proofs.Texts.{Closes}
-use Rattle.ssap_grammar.proofs.Attributes.{IsName, TagEnds, IsLettered}
+use Rattle.ssap_grammar.proofs.Attributes.{IsName, TagEnds}
 use Rattle.ssap_grammar.proofs.Elements.{element_meet, element_tag}
 
 -- a starting tag stands at the front
@@ -62,7 +63,7 @@ solid_no_space (byte ∷ word) bytes rest h e = high_no_space byte (word ++ rest
     low : (byte : ℕ) → nat_le 33 byte ≡ true → 33 ≤ byte
     low byte h = grind arith
 
-oneof_no_space : {A : Type 0} (table : List (List ℕ × A)) → are_solid table ≡ true → (value : A) (bytes rest : List ℕ)
+pub oneof_no_space : {A : Type 0} (table : List (List ℕ × A)) → are_solid table ≡ true → (value : A) (bytes rest : List ℕ)
     → OneOf table value bytes rest → NoSpace bytes
 oneof_no_space [] h value bytes rest x = absurd x
 oneof_no_space (entry ∷ table) h value bytes rest (inl x) =

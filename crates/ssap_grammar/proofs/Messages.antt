@@ -8,16 +8,16 @@ use Rattle.ssap_items.specs.declared.envelope.Envelope.{Envelope}
 use Rattle.ssap_grammar.specs.Front.{Front, Word, Nothing, Then, Optional}
 use Rattle.ssap_grammar.specs.Characters.{Spaces, Quoted}
 use Rattle.ssap_grammar.specs.Text.{ReadsText}
-use Rattle.ssap_grammar.specs.Attribute.{ReadsAttribute}
+use Rattle.ssap_grammar.specs.Attribute.{IsLettered}
 use Rattle.ssap_grammar.specs.Element.{ReadsElement}
 use Rattle.ssap_grammar.specs.Head.{message_types, transactions, ReadsMessageType, ReadsTransactionType}
-use Rattle.ssap_grammar.specs.Message.{ReadsUtf8Name, ReadsDeclaration, Item, ReadsItem, Holds, ReadsRoot, ReadsMessage, Spells}
+use Rattle.ssap_grammar.specs.Message.{ReadsUtf8Name, ReadsEncoding, ReadsDeclaration, BeginsRoot, Item, ReadsItem, Holds, ReadsRoot, ReadsMessage, Spells}
 use Rattle.ssap_grammar.specs.Message.Item.{MessageTypeItem, TransactionTypeItem, TransactionIdItem, NodeIdItem, SpaceIdItem, ParameterItem}
 use Rattle.m3_terms.proofs.Lists.{heads_same, tails_same}
 use Rattle.ssap_grammar.proofs.Fronts.{Any, Head, Meet, Alone, meet_any, meet_map, word_meet, word_alone, nothing_meet, nothing_alone, then_meet, then_alone, optional_meet, optional_alone, word_map, more_behind}
 use Rattle.ssap_grammar.proofs.Characters.{Stops, NoSpace, high_no_space, spaces_meet, spaces_alone, quoted_meet, quoted_alone, runs_told}
 use Rattle.ssap_grammar.proofs.Texts.{Closes, text_meet, text_alone}
-use Rattle.ssap_grammar.proofs.Attributes.{IsName, TagEnds, IsLettered, attribute_meet, attribute_apart, attribute_alone}
+use Rattle.ssap_grammar.proofs.Attributes.{IsName, TagEnds, attribute_meet, attribute_apart, attribute_alone}
 use Rattle.ssap_grammar.proofs.Elements.{element_meet, element_alone, element_tag, all_names, names_all}
 use Rattle.ssap_grammar.proofs.Contents.{Opens, nothing_no_name, chosen_alone, word_element_meet, all_spaced_meet, all_spaced_no_space, all_spaced_alone}
 use Rattle.ssap_grammar.proofs.Parameters.{encoding_lettered, parameter_meet, parameter_alone, parameter_attributes_no_name}
@@ -37,7 +37,7 @@ text_element_meet tag v w =
     meet_map (λ h. h.1) (element_meet tag (nothing_meet TagEnds) (text_meet v w) (text_alone v) (text_alone w))
 
 -- the tag of an item
-item_tag : Item → List ℕ
+unfoldable pub item_tag : Item → List ℕ
 item_tag (MessageTypeItem value) = codes "message_type"
 item_tag (TransactionTypeItem value) = codes "transaction_type"
 item_tag (TransactionIdItem value) = codes "transaction_id"
@@ -62,7 +62,7 @@ item_names (MessageTypeItem value) = refl
 item_names _ = refl
 
 -- two items at one place have one tag
-item_tags_same : (i j : Item) (bytes rest left : List ℕ) → ReadsItem i bytes rest → ReadsItem j bytes left → item_tag i ≡ item_tag j
+pub item_tags_same : (i j : Item) (bytes rest left : List ℕ) → ReadsItem i bytes rest → ReadsItem j bytes left → item_tag i ≡ item_tag j
 item_tags_same i j bytes rest left x y =
     let s = item_begins i bytes rest x in
     let t = item_begins j bytes left y in
@@ -97,13 +97,13 @@ item_lettered (NodeIdItem value) = record { byte = 110; more = codes "ode_id"; i
 item_lettered (SpaceIdItem value) = record { byte = 115; more = codes "pace_id"; is = refl; high = lit≤ tt }
 item_lettered (ParameterItem value) = record { byte = 112; more = codes "arameter"; is = refl; high = lit≤ tt }
 
-item_opens : (i : Item) (bytes rest : List ℕ) → ReadsItem i bytes rest → Opens bytes
+pub item_opens : (i : Item) (bytes rest : List ℕ) → ReadsItem i bytes rest → Opens bytes
 item_opens i bytes rest x =
     let t = item_begins i bytes rest x in
     let l = item_lettered i in
     record { byte = l.byte; more = l.more ++ t.0; is = t.1 ∙ ap (λ n. 60 ∷ (n ++ t.0)) l.is; high = l.high }
 
-item_alone : (i : Item) → Alone (ReadsItem i)
+pub item_alone : (i : Item) → Alone (ReadsItem i)
 item_alone (MessageTypeItem value) = element_alone (codes "message_type") nothing_alone (chosen_alone message_types value)
 item_alone (TransactionTypeItem value) = element_alone (codes "transaction_type") nothing_alone (chosen_alone transactions value)
 item_alone (TransactionIdItem value) = element_alone (codes "transaction_id") nothing_alone (text_alone value)
@@ -126,14 +126,8 @@ holds_once items v w x y =
     }
 
 -- the declaration
-version_lettered : IsLettered (codes "version")
+pub version_lettered : IsLettered (codes "version")
 version_lettered = record { byte = 118; more = codes "ersion"; is = refl; high = lit≤ tt }
-
-abbrev pub Version : Front
-Version = ReadsAttribute (codes "version") (Quoted (λ quote. Word (codes "1.0")))
-
-abbrev pub Utf8 : Front
-Utf8 = ReadsAttribute (codes "encoding") (Quoted (λ quote. ReadsUtf8Name))
 
 -- the two names of the encoding
 utf8_both : (bytes rest left : List ℕ) → ReadsUtf8Name bytes rest → ReadsUtf8Name bytes left → rest ≡ left
@@ -162,7 +156,7 @@ declaration_meet =
     meet_map (λ _. tt) (then_meet (word_meet (codes "<?xml")) (λ _ _ _ _. tt) (λ _ _ _ _. tt)
     (then_meet (attribute_meet (codes "version") version_lettered (quoted_meet (λ quote _. meet_any (Head quote) (word_meet (codes "1.0")))))
     (λ _ _ _ _. tt) (λ _ _ _ _. tt)
-    (then_meet (optional_meet Utf8 (Unit {0}) TagEnds Any
+    (then_meet (optional_meet ReadsEncoding (Unit {0}) TagEnds Any
     (attribute_meet (codes "encoding") encoding_lettered (quoted_meet (λ quote _. record { both = λ b r l x y _ _. (tt, utf8_both b r l x y) })))
     (λ _ _. tt) (λ bytes rest x. attribute_apart (codes "encoding") (Quoted (λ quote. ReadsUtf8Name)) bytes rest encoding_lettered x))
     (λ bytes rest x _. last_ends bytes rest x) (λ bytes rest x _. last_ends bytes rest x)
@@ -173,19 +167,16 @@ declaration_alone : Alone ReadsDeclaration
 unfolding ReadsDeclaration
 declaration_alone =
     then_alone (word_alone (codes "<?xml")) (then_alone (attribute_alone (codes "version") (Quoted (λ quote. Word (codes "1.0"))) (quoted_alone (λ _. word_alone (codes "1.0"))))
-    (then_alone (optional_alone Utf8 (attribute_alone (codes "encoding") (Quoted (λ quote. ReadsUtf8Name)) (quoted_alone (λ _. utf8_alone))))
+    (then_alone (optional_alone ReadsEncoding (attribute_alone (codes "encoding") (Quoted (λ quote. ReadsUtf8Name)) (quoted_alone (λ _. utf8_alone))))
     (then_alone spaces_alone (word_alone (codes "?>")))))
 
 -- a declaration begins with `<?`
-declaration_begins : (bytes rest : List ℕ) → ReadsDeclaration bytes rest → (more : List ℕ) × (bytes ≡ 60 ∷ 63 ∷ more)
+pub declaration_begins : (bytes rest : List ℕ) → ReadsDeclaration bytes rest → (more : List ℕ) × (bytes ≡ 60 ∷ 63 ∷ more)
 unfolding ReadsDeclaration
 declaration_begins bytes rest x = (120 ∷ 109 ∷ 108 ∷ x.middle, x.first)
 
 -- the element of a message begins with `<S`
-abbrev pub RootBegins : List ℕ → Type 0
-RootBegins bytes = (more : List ℕ) × (bytes ≡ 60 ∷ 83 ∷ more)
-
-root_begins : (items : List Item) (bytes rest : List ℕ) → ReadsRoot items bytes rest → RootBegins bytes
+pub root_begins : (items : List Item) (bytes rest : List ℕ) → ReadsRoot items bytes rest → BeginsRoot bytes
 unfolding ReadsRoot
 root_begins items bytes rest x = (83 ∷ 65 ∷ 80 ∷ 95 ∷ 109 ∷ 101 ∷ 115 ∷ 115 ∷ 97 ∷ 103 ∷ 101 ∷ x.middle, x.first)
 
@@ -216,12 +207,12 @@ root_alone items =
 abbrev pub Before : Front
 Before = Optional (Then ReadsDeclaration Spaces)
 
-root_no_space : (bytes : List ℕ) → RootBegins bytes → NoSpace bytes
+pub root_no_space : (bytes : List ℕ) → BeginsRoot bytes → NoSpace bytes
 root_no_space bytes r = high_no_space 60 (83 ∷ r.0) bytes (lit≤ tt) r.1
 
-before_meet : Meet Before Before (Unit {0}) RootBegins
+before_meet : Meet Before Before (Unit {0}) BeginsRoot
 before_meet =
-    optional_meet (Then ReadsDeclaration Spaces) (Unit {0} × Unit {0}) RootBegins NoSpace (then_meet declaration_meet (λ _ _ _ _. tt) (λ _ _ _ _. tt) spaces_meet)
+    optional_meet (Then ReadsDeclaration Spaces) (Unit {0} × Unit {0}) BeginsRoot NoSpace (then_meet declaration_meet (λ _ _ _ _. tt) (λ _ _ _ _. tt) spaces_meet)
     root_no_space (λ bytes rest x r.
     let d = declaration_begins bytes x.middle x.first in
     let n = heads_same 63 83 d.0 r.0 (tails_same 60 60 (63 ∷ d.0) (83 ∷ r.0) (sym d.1 ∙ r.1)) in

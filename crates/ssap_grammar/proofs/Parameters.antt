@@ -11,7 +11,7 @@ use Rattle.ssap_grammar.specs.Front.{Front, Then, Many}
 use Rattle.ssap_grammar.specs.Characters.{IsWhite, Spaces}
 use Rattle.ssap_grammar.specs.Text.{ReadsPiece, ReadsText}
 use Rattle.ssap_grammar.specs.Text.ReadsPiece.{Plain, Reference, Cdata}
-use Rattle.ssap_grammar.specs.Attribute.{ReadsAttvalue}
+use Rattle.ssap_grammar.specs.Attribute.{IsLettered, ReadsAttvalue}
 use Rattle.ssap_grammar.specs.Triples.{ReadsTripleList}
 use Rattle.ssap_grammar.specs.Table.{ReadsSparql}
 use Rattle.ssap_grammar.specs.Parameter.{ParameterAttribute, name_of, encoding_of, ReadsParameterAttribute, ReadsParameterAttributes, ReadsBody, ReadsParameter}
@@ -20,7 +20,7 @@ use Rattle.m3_terms.proofs.Lists.{heads_same}
 use Rattle.ssap_grammar.proofs.Fronts.{Any, Meet, Alone, meet_map, then_alone, many_meet, many_alone, word_map}
 use Rattle.ssap_grammar.proofs.Characters.{Stops, NoSpace, white_small, char_byte, spaces_meet, spaces_alone}
 use Rattle.ssap_grammar.proofs.Texts.{Closes, text_meet, text_alone, reference_head, section_is, piece_no_tag}
-use Rattle.ssap_grammar.proofs.Attributes.{IsName, TagEnds, IsLettered, attribute_meet, attribute_apart, attributes_apart, attribute_stops, attribute_alone, attvalue_meet, attvalue_alone}
+use Rattle.ssap_grammar.proofs.Attributes.{IsName, TagEnds, attribute_meet, attribute_apart, attributes_apart, attribute_stops, attribute_alone, attvalue_meet, attvalue_alone}
 use Rattle.ssap_grammar.proofs.Elements.{element_meet, element_alone, elements_apart}
 use Rattle.ssap_grammar.proofs.Contents.{Opens, opens_no_close, NoName, nothing_no_name, element_opens, around_meet, last_spaces_meet}
 use Rattle.ssap_grammar.proofs.Triples.{triple_list_meet, triple_list_alone, triple_list_opens}
@@ -110,7 +110,7 @@ piece_white value bytes rest more white w (Cdata cs p is x) e =
     absurd (omega (arith, n, small))
 
 -- no text up to a finishing tag begins with white space and a starting tag
-text_no_element : (pieces : List (List ℕ)) (white bytes rest after : List ℕ) → AllByRecursion IsWhite white → bytes ≡ white ++ after
+pub text_no_element : (pieces : List (List ℕ)) (white bytes rest after : List ℕ) → AllByRecursion IsWhite white → bytes ≡ white ++ after
     → Many ReadsPiece pieces bytes rest → Closes rest → ¬ (Opens after)
 text_no_element [] [] bytes rest after each e x c o =
     opens_no_close after o (subst Closes (sym x ∙ e) c)

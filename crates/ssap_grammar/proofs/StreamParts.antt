@@ -1,5 +1,5 @@
 -- A stream with a part of a message behind it, and bytes with which no message goes on.
-use Rattle.std.proofs.Common.{◌≡◌, ◌⊎◌, inl, inr, ℕ, suc, ◌+◌, ◌-◌, ◌<◌, ◌≤◌, List, [], ◌∷◌, ◌++◌, length, take, drop, refl, sym, ◌∙◌, ap, subst, arith, append_assoc}
+use Rattle.std.proofs.Common.{◌≡◌, ◌⊎◌, inl, inr, ℕ, suc, ◌+◌, ◌-◌, ◌<◌, ◌≤◌, List, [], ◌∷◌, ◌++◌, length, take, drop, sym, ◌∙◌, ap, subst, arith, append_assoc}
 use Rattle.std.proofs.lemmas.List.{append-nil, length-append, take-append-drop}
 use Rattle.std.proofs.Math.Seq.{take-append-add, take-append_seam, take-length}
 use Rattle.std.proofs.lemmas.Bool.{cases_lt}
@@ -8,11 +8,11 @@ use Rattle.ssap_grammar.specs.Characters.{IsWhite}
 use Rattle.ssap_grammar.specs.Message.{ReadsMessage, Spells}
 use Rattle.ssap_grammar.specs.Stream.{Placed, Messages, Stream, IsViable, IsPlace, IsWholeOf, IsWhole, IsInside}
 use Rattle.ssap_grammar.specs.Laws.{IsPart, IsDeadEnd}
-use Rattle.m3_terms.proofs.Lists.{heads_same, tails_same, fronts, Shorter, Longer}
+use Rattle.m3_terms.proofs.Lists.{heads_same, fronts, Shorter, Longer}
 use Rattle.ssap_grammar.proofs.Fronts.{Head, more_behind}
 use Rattle.ssap_grammar.proofs.Characters.{NoSpace, high_no_space, spaces_meet, no_spaces}
 use Rattle.ssap_grammar.proofs.Messages.{message_both, message_alone, message_head, none_begins}
-use Rattle.ssap_grammar.proofs.Streams.{GoesOn, messages_no_space, stream_goes_on}
+use Rattle.ssap_grammar.proofs.Streams.{head_no_space, GoesOn, messages_no_space, stream_goes_on}
 use Rattle.ssap_grammar.proofs.StreamEnds.{message_add, placed, message_word}
 
 -- bytes have one place
@@ -48,9 +48,6 @@ front_head (c ∷ front) back e some x =
     let h = message_head e (c ∷ (front ++ back)) [] x in
     (front, ap (λ b. b ∷ front) (heads_same c 60 (front ++ back) h.0 h.1))
 
-head_solid : (bytes : List ℕ) → Head 60 bytes → NoSpace bytes
-head_solid bytes h = high_no_space 60 h.0 bytes (omega arith) h.1
-
 -- no stream ends inside a message
 no_stream_inside : (w front back : List ℕ) (l others : List Placed) (e : Envelope) → Stream w l → Spells (front ++ back) e → 0 < length front → 0 < length back
     → ¬ (Stream (w ++ front) others)
@@ -61,7 +58,7 @@ no_stream_inside w front back l others e x spelled some left y = go g.tail g.rea
 
     same : front ≡ g.next
     same =
-        let h = head_solid front (front_head front back e some spelled) in
+        let h = head_no_space front (front_head front back e some spelled) in
         (spaces_meet.both front front g.next (no_spaces front) g.spaces h (messages_no_space g.tail (length w + length front) g.next g.reads)).1
 
     go : (tail : List Placed) → Messages (length w + length front) tail g.next → ⊥

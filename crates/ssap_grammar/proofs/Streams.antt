@@ -13,7 +13,7 @@ placed_same : (p q : Placed) → p.start ≡ q.start → p.end ≡ q.end → p.e
 placed_same p q a b c = λ i. record { start = a i; end = b i; envelope = c i }
 
 -- what begins with `<` begins with no white space
-head_no_space : (bytes : List ℕ) → Head 60 bytes → NoSpace bytes
+pub head_no_space : (bytes : List ℕ) → Head 60 bytes → NoSpace bytes
 head_no_space bytes h = high_no_space 60 h.0 bytes (lit≤ tt) h.1
 
 -- a message with what follows it begins with no white space, and with more behind it neither

@@ -10,13 +10,13 @@ use Rattle.ssap_items.specs.Canon.{kind_word}
 use Rattle.ssap_grammar.specs.Front.{Front, Word, Nothing, Then, Optional}
 use Rattle.ssap_grammar.specs.Characters.{Spaces, Quoted}
 use Rattle.ssap_grammar.specs.Text.{ReadsText}
-use Rattle.ssap_grammar.specs.Attribute.{ReadsAttvalue}
+use Rattle.ssap_grammar.specs.Attribute.{IsLettered, ReadsAttvalue}
 use Rattle.ssap_grammar.specs.Element.{ReadsElement}
 use Rattle.ssap_grammar.specs.Table.{ReadsName, ReadsVariable, ReadsHead, ReadsTerm, ReadsBinding, ReadsResult, ReadsResults, ReadsNamespace, ReadsSparql}
 use Rattle.ssap_grammar.proofs.Fronts.{Any, Head, Meet, Alone, meet_any, meet_map, word_meet, word_alone, nothing_meet, nothing_alone, then_alone, optional_meet, optional_alone}
 use Rattle.ssap_grammar.proofs.Characters.{Stops, spaces_alone, quoted_meet, quoted_alone}
 use Rattle.ssap_grammar.proofs.Texts.{text_meet, text_alone}
-use Rattle.ssap_grammar.proofs.Attributes.{IsName, TagEnds, IsLettered, attribute_meet, attribute_apart, attribute_stops, attribute_alone, attvalue_meet, attvalue_alone}
+use Rattle.ssap_grammar.proofs.Attributes.{IsName, TagEnds, attribute_meet, attribute_apart, attribute_stops, attribute_alone, attvalue_meet, attvalue_alone}
 use Rattle.ssap_grammar.proofs.Elements.{element_meet, element_alone, elements_apart}
 use Rattle.ssap_grammar.proofs.Contents.{Opens, NoName, nothing_no_name, element_opens, around_meet, last_spaces_meet, list_element_meet, listed_alone}
 use Rattle.ssap_grammar.proofs.Triples.{term_same}
@@ -39,10 +39,10 @@ variable_meet : (v w : List ℕ) → Meet (ReadsVariable v) (ReadsVariable w) (v
 variable_meet v w =
     meet_map (λ h. h.0) (element_meet (codes "variable") (meet_any TagEnds (name_meet v w)) last_spaces_meet spaces_alone spaces_alone)
 
-variable_alone : (v : List ℕ) → Alone (ReadsVariable v)
+pub variable_alone : (v : List ℕ) → Alone (ReadsVariable v)
 variable_alone v = element_alone (codes "variable") (name_alone v) spaces_alone
 
-variable_opens : (v bytes rest : List ℕ) → ReadsVariable v bytes rest → Opens bytes
+pub variable_opens : (v bytes rest : List ℕ) → ReadsVariable v bytes rest → Opens bytes
 variable_opens v bytes rest x =
     element_opens (codes "variable") (record { byte = 118; more = codes "ariable"; is = refl; high = lit≤ tt }) (name_no_name v) bytes rest x
 
@@ -52,7 +52,7 @@ head_meet = list_element_meet (codes "head") ReadsVariable variable_meet variabl
 head_alone : (vs : List (List ℕ)) → Alone (ReadsHead vs)
 head_alone vs = element_alone (codes "head") nothing_alone (listed_alone ReadsVariable variable_alone vs)
 
-head_opens : (vs : List (List ℕ)) (bytes rest : List ℕ) → ReadsHead vs bytes rest → Opens bytes
+pub head_opens : (vs : List (List ℕ)) (bytes rest : List ℕ) → ReadsHead vs bytes rest → Opens bytes
 head_opens vs bytes rest x =
     element_opens (codes "head") (record { byte = 104; more = codes "ead"; is = refl; high = lit≤ tt }) nothing_no_name bytes rest x
 
@@ -87,7 +87,7 @@ kind_lettered Uri = record { byte = 117; more = codes "ri"; is = refl; high = li
 kind_lettered Literal = record { byte = 108; more = codes "iteral"; is = refl; high = lit≤ tt }
 kind_lettered Bnode = record { byte = 98; more = codes "node"; is = refl; high = lit≤ tt }
 
-term_opens : (v : RawTerm) (bytes rest : List ℕ) → ReadsTerm v bytes rest → Opens bytes
+pub term_opens : (v : RawTerm) (bytes rest : List ℕ) → ReadsTerm v bytes rest → Opens bytes
 term_opens v bytes rest x = element_opens (kind_word v.kind) (kind_lettered v.kind) nothing_no_name bytes rest x
 
 -- cells with the same parts are one
@@ -100,21 +100,21 @@ binding_meet v w =
     (around_meet (term_opens v.value) (term_opens w.value) (term_meet v.value w.value) last_spaces_meet)
     (then_alone spaces_alone (then_alone (term_alone v.value) spaces_alone)) (then_alone spaces_alone (then_alone (term_alone w.value) spaces_alone)))
 
-binding_alone : (v : RawCell) → Alone (ReadsBinding v)
+pub binding_alone : (v : RawCell) → Alone (ReadsBinding v)
 binding_alone v =
     element_alone (codes "binding") (name_alone v.name) (then_alone spaces_alone (then_alone (term_alone v.value) spaces_alone))
 
-binding_opens : (v : RawCell) (bytes rest : List ℕ) → ReadsBinding v bytes rest → Opens bytes
+pub binding_opens : (v : RawCell) (bytes rest : List ℕ) → ReadsBinding v bytes rest → Opens bytes
 binding_opens v bytes rest x =
     element_opens (codes "binding") (record { byte = 98; more = codes "inding"; is = refl; high = lit≤ tt }) (name_no_name v.name) bytes rest x
 
 result_meet : (vs ws : List RawCell) → Meet (ReadsResult vs) (ReadsResult ws) (vs ≡ ws) Any
 result_meet = list_element_meet (codes "result") ReadsBinding binding_meet binding_opens binding_alone
 
-result_alone : (vs : List RawCell) → Alone (ReadsResult vs)
+pub result_alone : (vs : List RawCell) → Alone (ReadsResult vs)
 result_alone vs = element_alone (codes "result") nothing_alone (listed_alone ReadsBinding binding_alone vs)
 
-result_opens : (vs : List RawCell) (bytes rest : List ℕ) → ReadsResult vs bytes rest → Opens bytes
+pub result_opens : (vs : List RawCell) (bytes rest : List ℕ) → ReadsResult vs bytes rest → Opens bytes
 result_opens vs bytes rest x =
     element_opens (codes "result") (record { byte = 114; more = codes "esult"; is = refl; high = lit≤ tt }) nothing_no_name bytes rest x
 
@@ -124,12 +124,12 @@ results_meet = list_element_meet (codes "results") ReadsResult result_meet resul
 results_alone : (vs : List (List RawCell)) → Alone (ReadsResults vs)
 results_alone vs = element_alone (codes "results") nothing_alone (listed_alone ReadsResult result_alone vs)
 
-results_opens : (vs : List (List RawCell)) (bytes rest : List ℕ) → ReadsResults vs bytes rest → Opens bytes
+pub results_opens : (vs : List (List RawCell)) (bytes rest : List ℕ) → ReadsResults vs bytes rest → Opens bytes
 results_opens vs bytes rest x =
     element_opens (codes "results") (record { byte = 114; more = codes "esults"; is = refl; high = lit≤ tt }) nothing_no_name bytes rest x
 
 -- the attribute `xmlns`
-namespace_lettered : IsLettered (codes "xmlns")
+pub namespace_lettered : IsLettered (codes "xmlns")
 namespace_lettered = record { byte = 120; more = codes "mlns"; is = refl; high = lit≤ tt }
 
 abbrev pub namespace : List ℕ

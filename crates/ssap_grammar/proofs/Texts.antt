@@ -27,7 +27,7 @@ abbrev pub Endless : List ℕ → Type 0
 Endless characters = (before after : List ℕ) → characters ≢ before ++ 93 ∷ 93 ∷ 62 ∷ after
 
 -- none among those behind the first either
-endless_tail : (c : ℕ) (cs : List ℕ) → Endless (c ∷ cs) → Endless cs
+pub endless_tail : (c : ℕ) (cs : List ℕ) → Endless (c ∷ cs) → Endless cs
 endless_tail c cs h before after e = h (c ∷ before) after (ap (λ l. c ∷ l) e)
 
 -- characters with what follows them, the first apart

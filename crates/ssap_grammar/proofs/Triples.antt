@@ -8,18 +8,18 @@ use Rattle.ssap_items.specs.declared.body.RawTriple.{RawTriple}
 use Rattle.ssap_grammar.specs.Front.{Front, Then, Given}
 use Rattle.ssap_grammar.specs.Characters.{Spaces}
 use Rattle.ssap_grammar.specs.Text.{ReadsText}
-use Rattle.ssap_grammar.specs.Attribute.{QuotedWord}
+use Rattle.ssap_grammar.specs.Attribute.{IsLettered, QuotedWord}
 use Rattle.ssap_grammar.specs.Element.{ReadsElement}
 use Rattle.ssap_grammar.specs.Triples.{kind_words, ReadsType, ReadsSubject, ReadsPredicate, ReadsObject, ReadsTriple, ReadsTripleList}
 use Rattle.ssap_grammar.proofs.Fronts.{Any, Meet, Alone, meet_any, meet_map, nothing_meet, nothing_alone, then_alone, given_meet, given_alone, are_apart, word_map}
 use Rattle.ssap_grammar.proofs.Characters.{spaces_alone}
 use Rattle.ssap_grammar.proofs.Texts.{Closes, text_meet, text_alone}
-use Rattle.ssap_grammar.proofs.Attributes.{TagEnds, IsLettered, attribute_meet, attribute_apart, attribute_stops, attribute_alone, quoted_word_meet, quoted_word_alone}
+use Rattle.ssap_grammar.proofs.Attributes.{TagEnds, attribute_meet, attribute_apart, attribute_stops, attribute_alone, quoted_word_meet, quoted_word_alone}
 use Rattle.ssap_grammar.proofs.Elements.{element_meet, element_alone}
 use Rattle.ssap_grammar.proofs.Contents.{Opens, NoName, nothing_no_name, element_opens, around_meet, last_spaces_meet, list_element_meet, listed_alone}
 
 -- the attribute `type`
-type_lettered : IsLettered (codes "type")
+pub type_lettered : IsLettered (codes "type")
 type_lettered = record { byte = 116; more = codes "ype"; is = refl; high = lit≤ tt }
 
 type_meet : (kinds : List Kind) → are_apart (flat_map kind_words kinds) ≡ true → (v w : Kind) → Meet (ReadsType kinds v) (ReadsType kinds w) (v ≡ w) Any
@@ -99,15 +99,15 @@ pub object_alone : (v : RawTerm) → Alone (ReadsObject v)
 object_alone v = element_alone (codes "object") (type_alone (Uri ∷ Literal ∷ Bnode ∷ []) v.kind) (text_alone v.text)
 
 -- each begins with a starting tag
-subject_opens : (v : RawTerm) (bytes rest : List ℕ) → ReadsSubject v bytes rest → Opens bytes
+pub subject_opens : (v : RawTerm) (bytes rest : List ℕ) → ReadsSubject v bytes rest → Opens bytes
 subject_opens v bytes rest x =
     element_opens (codes "subject") (record { byte = 115; more = codes "ubject"; is = refl; high = lit≤ tt }) (given_type_no_name (Uri ∷ Bnode ∷ []) x.type) bytes rest x.reads
 
-predicate_opens : (v bytes rest : List ℕ) → ReadsPredicate v bytes rest → Opens bytes
+pub predicate_opens : (v bytes rest : List ℕ) → ReadsPredicate v bytes rest → Opens bytes
 predicate_opens v bytes rest x =
     element_opens (codes "predicate") (record { byte = 112; more = codes "redicate"; is = refl; high = lit≤ tt }) (given_type_no_name (Uri ∷ []) x.type) bytes rest x.reads
 
-object_opens : (v : RawTerm) (bytes rest : List ℕ) → ReadsObject v bytes rest → Opens bytes
+pub object_opens : (v : RawTerm) (bytes rest : List ℕ) → ReadsObject v bytes rest → Opens bytes
 object_opens v bytes rest x =
     element_opens (codes "object") (record { byte = 111; more = codes "bject"; is = refl; high = lit≤ tt })
     (λ b r y _. attribute_stops (codes "type") (QuotedWord (flat_map kind_words (Uri ∷ Literal ∷ Bnode ∷ [])) v.kind) b r y tt) bytes rest x
@@ -138,7 +138,7 @@ triple_meet v w =
 pub triple_alone : (v : RawTriple) → Alone (ReadsTriple v)
 triple_alone v = element_alone (codes "triple") nothing_alone (parts_alone v)
 
-triple_opens : (v : RawTriple) (bytes rest : List ℕ) → ReadsTriple v bytes rest → Opens bytes
+pub triple_opens : (v : RawTriple) (bytes rest : List ℕ) → ReadsTriple v bytes rest → Opens bytes
 triple_opens v bytes rest x =
     element_opens (codes "triple") (record { byte = 116; more = codes "riple"; is = refl; high = lit≤ tt }) nothing_no_name bytes rest x
 

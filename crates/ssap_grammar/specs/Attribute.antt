@@ -1,8 +1,15 @@
 -- Attributes: a name, `=`, and a value in either quote.
-use Rattle.std.specs.Prelude.{◌≡◌, ◌≢◌, ℕ, List, flat_map, codes, encode_utf8}
+use Rattle.std.specs.Prelude.{◌≡◌, ◌≢◌, ℕ, ◌≤◌, List, ◌∷◌, flat_map, codes, encode_utf8}
 use Rattle.ssap_grammar.specs.Front.{Front, Word, ◌then◌, Many, OneOf}
 use Rattle.ssap_grammar.specs.Characters.{Spaces, SomeSpaces, Quoted}
 use Rattle.ssap_grammar.specs.Text.{IsPlain, references}
+
+-- a name begins with a small letter
+pub record IsLettered (name : List ℕ) : Type 0 where
+  pub byte : ℕ
+  pub more : List ℕ
+  pub is : name ≡ byte ∷ more
+  pub high : 97 ≤ byte
 
 -- EQ: `=`, with white space on either side
 abbrev pub Equals : Front

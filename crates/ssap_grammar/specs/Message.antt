@@ -14,10 +14,17 @@ use Rattle.ssap_grammar.specs.Parameter.{ReadsParameter}
 abbrev pub ReadsUtf8Name : Front
 ReadsUtf8Name bytes rest = Word (codes "UTF-8") bytes rest ⊎ Word (codes "utf-8") bytes rest
 
+-- the attribute `version` of a declaration
+abbrev pub ReadsVersion : Front
+ReadsVersion = ReadsAttribute (codes "version") (Quoted (λ quote. Word (codes "1.0")))
+
+-- the attribute `encoding` of a declaration
+abbrev pub ReadsEncoding : Front
+ReadsEncoding = ReadsAttribute (codes "encoding") (Quoted (λ quote. ReadsUtf8Name))
+
 -- decl: a declaration in the form of XML 1.0 (section 2.8), with its version and perhaps its encoding
 unfoldable pub ReadsDeclaration : Front
-ReadsDeclaration = Word (codes "<?xml") then ReadsAttribute (codes "version") (Quoted (λ quote. Word (codes "1.0")))
-    then Optional (ReadsAttribute (codes "encoding") (Quoted (λ quote. ReadsUtf8Name))) then Spaces then Word (codes "?>")
+ReadsDeclaration = Word (codes "<?xml") then ReadsVersion then Optional ReadsEncoding then Spaces then Word (codes "?>")
 
 -- item: a head or a parameter
 pub data Item : Type 0 where
@@ -78,6 +85,10 @@ pub record Holds (items : List Item) (envelope : Envelope) : Type 0 where
 unfoldable pub ReadsRoot : List Item → Front
 ReadsRoot items = Word (codes "<SSAP_message") then Spaces then Word (codes ">") then Spaces
     then Many (λ item. ReadsItem item then Spaces) items then Word (codes "</SSAP_message") then Spaces then Word (codes ">")
+
+-- the element of a message begins here
+abbrev pub BeginsRoot : List ℕ → Type 0
+BeginsRoot bytes = (more : List ℕ) × (bytes ≡ 60 ∷ 83 ∷ more)
 
 -- message: perhaps a declaration, and then the element `SSAP_message`
 pub record ReadsMessage (envelope : Envelope) (bytes rest : List ℕ) : Type 0 where

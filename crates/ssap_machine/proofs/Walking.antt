@@ -1,13 +1,13 @@
 -- How walks go on: one behind another, over more symbols, and from the bytes alone.
-use Rattle.std.proofs.Common.{◌≡◌, ◌⊎◌, inl, inr, ℕ, ◌↔◌, List, [], ◌∷◌, ◌++◌, length, refl, sym, ◌∙◌, ap, subst, append_assoc, length-append, arith}
+use Rattle.std.proofs.Common.{◌≡◌, inl, inr, ℕ, ◌↔◌, List, [], ◌∷◌, ◌++◌, length, refl, sym, ◌∙◌, ap, subst, append_assoc, length-append, arith}
 use Rattle.std.proofs.lemmas.List.{append-nil}
 use Rattle.m3_terms.proofs.Lists.{heads_same, tails_same, fronts, Shorter, Longer}
-use Rattle.ssap_machine.specs.Machine.{Begins, Walks, Stay, Step, Accepts, IsMessage, IsHalf, IsStuck}
+use Rattle.ssap_machine.specs.Machine.{Begins, Walks, Stay, Step, Accepts, IsMessage, IsStuck}
 use Rattle.ssap_machine.specs.Progress.{IsPending}
 use Rattle.ssap_machine.specs.declared.symbol.Symbol.{Symbol}
 use Rattle.ssap_machine.specs.declared.symbol.Symbol.TheVariants.{Message}
 use Rattle.ssap_machine.proofs.Apart.{begins_once, begins_some}
-use Rattle.ssap_machine.proofs.Steps.{walks_one, walks_join}
+use Rattle.ssap_machine.proofs.Steps.{walks_join}
 
 -- a walk over more symbols leaves them as they are
 pub walks_over : (from to under : List Symbol) (bytes : List ℕ) → Walks from bytes to → Walks (from ++ under) bytes (to ++ under)

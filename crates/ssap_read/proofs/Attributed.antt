@@ -4,28 +4,20 @@ use Rattle.std.specs.Prelude.{Option, ⊤, codes, flat_map}
 use Rattle.std.specs.Borrow.{Bor}
 use Rattle.ssap_grammar.specs.Front.{Front, Word, Then, Given}
 use Rattle.ssap_grammar.specs.Characters.{Spaces, SomeSpaces, IsQuote, Quoted}
-use Rattle.ssap_grammar.specs.Attribute.{Equals, ReadsAttribute}
+use Rattle.ssap_grammar.specs.Attribute.{IsLettered, Equals, ReadsAttribute}
 use Rattle.ssap_grammar.specs.Triples.{kind_words}
 use Rattle.ssap_text.specs.Ends.{NoWhite}
 use Rattle.ssap_grammar.proofs.Fronts.{Leads, are_apart}
 use Rattle.ssap_grammar.proofs.Characters.{NoSpace, high_no_space, spaces_meet, some_are_spaces, quote_small}
-use Rattle.ssap_grammar.proofs.Attributes.{IsLettered}
+use Rattle.ssap_grammar.proofs.Attributes.{name_no_space}
 use Rattle.ssap_read.specs.Told.{Whatever, IsOnly, IsNone, Told, Passed}
-use Rattle.ssap_read.specs.Attributes.{IsNamed, ReadsAttributeName, all_kinds}
+use Rattle.ssap_read.specs.Attributes.{ReadsAttributeName, all_kinds}
 use Rattle.ssap_read.proofs.Tellings.{no_white, spaces_only, spaced_only, spaced_none, word_only, word_none, no_word_none, only_where}
 
 -- the words of the kinds are apart
 pub kinds_apart : are_apart (flat_map kind_words all_kinds) ≡ Rattle.std.proofs.Common.true
 unfolding kind_words
 kinds_apart = refl
-
--- a name begins with no white space
-named_no_space : (name bytes rest : List ℕ) → IsNamed name → bytes ≡ name ++ rest → NoSpace bytes
-named_no_space name bytes rest n e =
-    high_no_space n.byte (n.more ++ rest) bytes (let h = n.high in omega arith) (e ∙ ap (λ l. l ++ rest) n.is)
-
-pub lettered : (name : List ℕ) → IsNamed name → IsLettered name
-lettered name n = record { byte = n.byte; more = n.more; is = n.is; high = n.high }
 
 -- some white space before it
 some_only : (Q : Front) (G : List ℕ → Type 0) → Leads Q G NoSpace → (bytes middle rest : List ℕ) → Spaces bytes middle → NoWhite middle → length middle ≢ length bytes
@@ -48,39 +40,39 @@ some_none Q G leads bytes middle s n none w left x g =
     none w left (subst (λ m. Q m left) same x.second) g
 
 -- where there is no white space there is no attribute
-pub attribute_short_none : (name bytes middle : List ℕ) → IsNamed name → Spaces bytes middle → NoWhite middle → length middle ≡ length bytes
+pub attribute_short_none : (name bytes middle : List ℕ) → IsLettered name → Spaces bytes middle → NoWhite middle → length middle ≡ length bytes
     → IsNone {A = ⊤} (λ _. ReadsAttributeName name) NoWhite bytes
 attribute_short_none name bytes middle l s n same w left x g =
-    let e = (spaces_meet.both bytes x.middle middle (some_are_spaces bytes x.middle x.first) s (named_no_space name x.middle x.second.middle l x.second.first) (no_white middle n)).1 in
+    let e = (spaces_meet.both bytes x.middle middle (some_are_spaces bytes x.middle x.first) s (name_no_space name x.middle x.second.middle l x.second.first) (no_white middle n)).1 in
     let some = x.first.some in
     let f = ap length x.first.reads in
     let k = ap length e in
     let j = length-append x.first.white x.middle in
     absurd (omega arith)
 
-pub attribute_name_none : (name bytes middle : List ℕ) → IsNamed name → Spaces bytes middle → NoWhite middle
+pub attribute_name_none : (name bytes middle : List ℕ) → IsLettered name → Spaces bytes middle → NoWhite middle
     → ((rest : List ℕ) → ¬ (middle ≡ name ++ rest)) → IsNone {A = ⊤} (λ _. ReadsAttributeName name) NoWhite bytes
 attribute_name_none name bytes middle l s n none =
-    some_none (Then (Word name) Equals) NoWhite (λ b r x _. named_no_space name b x.middle l x.first) bytes middle s n
+    some_none (Then (Word name) Equals) NoWhite (λ b r x _. name_no_space name b x.middle l x.first) bytes middle s n
     (no_word_none {A = ⊤} name (λ _. Equals) NoWhite middle none)
 
 equals_no_space : Leads (Then (Word (codes "=")) Spaces) NoWhite NoSpace
 equals_no_space b r x _ = high_no_space 61 x.middle b (lit≤ tt) x.first
 
-pub attribute_equals_none : (name bytes middle named behind : List ℕ) → IsNamed name → Spaces bytes middle → NoWhite middle
+pub attribute_equals_none : (name bytes middle named behind : List ℕ) → IsLettered name → Spaces bytes middle → NoWhite middle
     → middle ≡ name ++ named → Spaces named behind → NoWhite behind → ((rest : List ℕ) → ¬ (behind ≡ codes "=" ++ rest))
     → IsNone {A = ⊤} (λ _. ReadsAttributeName name) NoWhite bytes
 attribute_equals_none name bytes middle named behind l s n e t m none =
-    some_none (Then (Word name) Equals) NoWhite (λ b r x _. named_no_space name b x.middle l x.first) bytes middle s n
+    some_none (Then (Word name) Equals) NoWhite (λ b r x _. name_no_space name b x.middle l x.first) bytes middle s n
     (word_none {A = ⊤} name (λ _. Equals) NoWhite middle named e
     (spaced_none {A = ⊤} (λ _. Then (Word (codes "=")) Spaces) NoWhite (λ _. equals_no_space) named behind t m
     (no_word_none {A = ⊤} (codes "=") (λ _. Spaces) NoWhite behind none)))
 
-pub attribute_name_only : (name bytes middle named behind after rest : List ℕ) → IsNamed name → Spaces bytes middle → NoWhite middle → length middle ≢ length bytes
+pub attribute_name_only : (name bytes middle named behind after rest : List ℕ) → IsLettered name → Spaces bytes middle → NoWhite middle → length middle ≢ length bytes
     → middle ≡ name ++ named → Spaces named behind → NoWhite behind → behind ≡ codes "=" ++ after → Spaces after rest → NoWhite rest
     → IsOnly {A = ⊤} (λ _. ReadsAttributeName name) NoWhite bytes tt rest
 attribute_name_only name bytes middle named behind after rest l s n more e t m f u k =
-    some_only (Then (Word name) Equals) NoWhite (λ b r x _. named_no_space name b x.middle l x.first) bytes middle rest s n more
+    some_only (Then (Word name) Equals) NoWhite (λ b r x _. name_no_space name b x.middle l x.first) bytes middle rest s n more
     (word_only {A = ⊤} name (λ _. Equals) NoWhite middle named rest tt e
     (spaced_only {A = ⊤} (λ _. Then (Word (codes "=")) Spaces) NoWhite (λ _. equals_no_space) named behind rest tt t m
     (word_only {A = ⊤} (codes "=") (λ _. Spaces) NoWhite behind after rest tt f

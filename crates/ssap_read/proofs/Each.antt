@@ -4,7 +4,7 @@ use Rattle.ssap_grammar.specs.Front.{Front, Many}
 use Rattle.ssap_grammar.specs.Characters.{Spaces}
 use Rattle.ssap_text.specs.Ends.{NoWhite, BeginsFinish}
 use Rattle.ssap_grammar.proofs.Fronts.{Alone}
-use Rattle.ssap_grammar.proofs.Characters.{spaces_meet, spaces_alone}
+use Rattle.ssap_grammar.proofs.Characters.{spaces_meet, spaces_alone, spaces_nothing}
 use Rattle.ssap_grammar.proofs.Contents.{Opens, Spaced, opens_no_close, all_spaced_no_space}
 use Rattle.ssap_read.specs.Told.{Whatever, IsOnly, IsNone}
 use Rattle.ssap_read.specs.Tags.{ReadsEach}
@@ -96,5 +96,5 @@ pub only_no_things : {A : Type 0} (P : A → Front) → ((v : A) (bytes rest : L
 only_no_things P opens [] x = refl
 only_no_things P opens (v ∷ vs) x =
     let o = opens v x.middle x.second.first.middle x.second.first.first in
-    let e = Rattle.ssap_read.proofs.Words.spaces_of_nothing x.middle x.first in
+    let e = spaces_nothing x.middle x.first in
     absurd (let p = sym e ∙ o.is in cc)

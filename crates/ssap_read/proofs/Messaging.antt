@@ -5,29 +5,24 @@ use Rattle.std.specs.Borrow.{Bor}
 use Rattle.ssap_items.specs.declared.envelope.Envelope.{Envelope}
 use Rattle.ssap_grammar.specs.Front.{Front, Word, Then, Optional}
 use Rattle.ssap_grammar.specs.Characters.{Spaces, Quoted}
-use Rattle.ssap_grammar.specs.Attribute.{ReadsAttribute}
-use Rattle.ssap_grammar.specs.Message.{ReadsUtf8Name, ReadsDeclaration, Item, ReadsItem, Holds, ReadsRoot, ReadsMessage, Spells}
+use Rattle.ssap_grammar.specs.Message.{ReadsUtf8Name, ReadsVersion, ReadsEncoding, ReadsDeclaration, BeginsRoot, Item, ReadsItem, Holds, ReadsRoot, ReadsMessage, Spells}
 use Rattle.ssap_text.specs.Ends.{NoWhite, BeginsFinish}
 use Rattle.m3_terms.proofs.Lists.{heads_same, tails_same}
 use Rattle.ssap_grammar.proofs.Fronts.{Leads}
 use Rattle.ssap_grammar.proofs.Characters.{NoSpace, high_no_space, spaces_run}
 use Rattle.ssap_grammar.proofs.Attributes.{attribute_apart}
-use Rattle.ssap_grammar.proofs.Messages.{holds_once}
+use Rattle.ssap_grammar.proofs.Messages.{item_opens, holds_once, declaration_begins, root_begins, root_no_space}
 use Rattle.ssap_read.specs.Told.{Whatever, IsOnly, IsNone, Told, Passed}
 use Rattle.ssap_read.specs.Tags.{ReadsPlainStart, ReadsFilling, Finished}
-use Rattle.ssap_read.specs.Attributes.{IsNamed, ReadsAttributeName}
+use Rattle.ssap_read.specs.Attributes.{ReadsAttributeName}
 use Rattle.ssap_read.specs.declared.gather.Gathered.{Gathered}
 use Rattle.ssap_read.specs.Pieces.{Gathers, Takes, Completes, ReadsContent, ReadsRootOf}
-use Rattle.ssap_read.specs.Declarations.{ReadsEncoding, ReadsDeclarationEnd, EndsDeclaration, IsBehindEncoding, BeginsRoot, IsBehind}
+use Rattle.ssap_read.specs.Declarations.{ReadsDeclarationEnd, EndsDeclaration, IsBehindEncoding, IsBehind}
 use Rattle.ssap_read.proofs.Tellings.{both_only, both_second_none, both_first_none, word_only, word_none, spaces_only, spaced_only, spaced_none, only_where, only_anywhere}
 use Rattle.ssap_read.proofs.Tagged.{filled_told}
-use Rattle.ssap_read.proofs.Attributed.{attribute_told, attribute_none, lettered}
-use Rattle.ssap_read.proofs.ParameterParts.{encoding_named}
+use Rattle.ssap_read.proofs.Attributed.{attribute_told, attribute_none}
 use Rattle.ssap_read.proofs.Each.{Sofar, each_only}
-use Rattle.ssap_read.proofs.Items.{item_opens}
-
-pub version_named : IsNamed (codes "version")
-version_named = record { byte = 118; more = codes "ersion"; is = refl; high = lit≤ tt }
+use Rattle.ssap_grammar.proofs.Parameters.{encoding_lettered}
 
 -- the two names of the encoding are apart
 names_apart : (bytes rest left : List ℕ) → Quoted (λ _. Word (codes "UTF-8")) bytes rest → ¬ (Quoted (λ _. Word (codes "utf-8")) bytes left)
@@ -94,7 +89,7 @@ encoding_lower bytes value (Some rest) p n q = attribute_told {A = ⊤} (codes "
 -- where a declaration ends no attribute begins
 end_apart : (bytes rest : List ℕ) → ReadsEncoding bytes rest → ¬ (EndsDeclaration bytes)
 end_apart bytes rest x e =
-    attribute_apart (codes "encoding") (Quoted (λ _. ReadsUtf8Name)) bytes rest (lettered (codes "encoding") encoding_named) x
+    attribute_apart (codes "encoding") (Quoted (λ _. ReadsUtf8Name)) bytes rest encoding_lettered x
     (record { after = e.1.middle; byte = 63; more = 62 ∷ e.0; spaces = e.1.first; is = e.1.second; small = lit< tt; solid = lit≤ tt })
 
 pub with_encoding : (bytes rest : List ℕ) → IsOnly {A = ⊤} (λ _. ReadsEncoding) Whatever bytes tt rest → IsBehindEncoding bytes rest
@@ -112,9 +107,6 @@ without_encoding bytes p = record { reads = inr refl; only = λ w left x f. (ref
     go left (inr x) = sym x
 
 -- the declaration
-abbrev Version : Front
-Version = ReadsAttribute (codes "version") (Quoted (λ quote. Word (codes "1.0")))
-
 abbrev Tail : Front
 Tail = Then (Optional ReadsEncoding) ReadsDeclarationEnd
 
@@ -122,10 +114,10 @@ pub declaration_none : (bytes : List ℕ) → ((rest : List ℕ) → ¬ (bytes �
 unfolding ReadsDeclaration
 declaration_none bytes n w left x _ = n x.middle x.first
 
-pub version_none : (bytes begin : List ℕ) → bytes ≡ codes "<?xml" ++ begin → IsNone {A = ⊤} (λ _. Version) Whatever begin → IsNone {A = ⊤} (λ _. ReadsDeclaration) Whatever bytes
+pub version_none : (bytes begin : List ℕ) → bytes ≡ codes "<?xml" ++ begin → IsNone {A = ⊤} (λ _. ReadsVersion) Whatever begin → IsNone {A = ⊤} (λ _. ReadsDeclaration) Whatever bytes
 unfolding ReadsDeclaration
 version_none bytes begin e n =
-    word_none {A = ⊤} (codes "<?xml") (λ _. Then Version Tail) Whatever bytes begin e (λ w left x _. n tt x.middle x.first tt)
+    word_none {A = ⊤} (codes "<?xml") (λ _. Then ReadsVersion Tail) Whatever bytes begin e (λ w left x _. n tt x.middle x.first tt)
 
 end_passed : (bytes begin : List ℕ) (r : Option (Bor (List ℕ))) → Spaces bytes begin → NoWhite begin → Passed (Word (codes "?>")) Whatever begin r → Passed ReadsDeclarationEnd Whatever bytes r
 end_passed bytes begin None s n p =
@@ -146,27 +138,19 @@ then_passed P Q F bytes middle (Some rest) leads p q = record {
       q.only tt left (subst (λ m. Q m left) one.1 x.second) tt;
 }
 
-pub declaration_passed : (bytes begin behind rest spaced : List ℕ) (r : Option (Bor (List ℕ))) → bytes ≡ codes "<?xml" ++ begin → IsOnly {A = ⊤} (λ _. Version) Whatever begin tt behind
+pub declaration_passed : (bytes begin behind rest spaced : List ℕ) (r : Option (Bor (List ℕ))) → bytes ≡ codes "<?xml" ++ begin → IsOnly {A = ⊤} (λ _. ReadsVersion) Whatever begin tt behind
     → IsBehindEncoding behind rest → Spaces rest spaced → NoWhite spaced → Passed (Word (codes "?>")) Whatever spaced r → Passed ReadsDeclaration Whatever bytes r
 unfolding ReadsDeclaration
 declaration_passed bytes begin behind rest spaced r e v o s n p =
-    Rattle.ssap_read.proofs.Tellings.word_passed (codes "<?xml") (Then Version Tail) bytes begin r e
-    (then_passed Version Tail Whatever begin behind r (λ _ _ _ _. tt) v
+    Rattle.ssap_read.proofs.Tellings.word_passed (codes "<?xml") (Then ReadsVersion Tail) bytes begin r e
+    (then_passed ReadsVersion Tail Whatever begin behind r (λ _ _ _ _. tt) v
     (then_passed (Optional ReadsEncoding) ReadsDeclarationEnd EndsDeclaration behind rest r (λ b l x _. (l, x)) o (end_passed rest spaced r s n p)))
-
--- a declaration begins with `<?`
-declaration_begins : (bytes rest : List ℕ) → ReadsDeclaration bytes rest → (more : List ℕ) × (bytes ≡ 60 ∷ 63 ∷ more)
-unfolding ReadsDeclaration
-declaration_begins bytes rest x = (120 ∷ 109 ∷ 108 ∷ x.middle, x.first)
 
 declaration_no_root : (bytes rest : List ℕ) → ReadsDeclaration bytes rest → ¬ (BeginsRoot bytes)
 declaration_no_root bytes rest x r =
     let d = declaration_begins bytes rest x in
     let n = heads_same 63 83 d.0 r.0 (tails_same 60 60 (63 ∷ d.0) (83 ∷ r.0) (sym d.1 ∙ r.1)) in
     absurd (omega arith)
-
-root_no_space : (bytes : List ℕ) → BeginsRoot bytes → NoSpace bytes
-root_no_space bytes r = high_no_space 60 (83 ∷ r.0) bytes (lit≤ tt) r.1
 
 pub behind_declaration : (bytes behind rest : List ℕ) → IsOnly {A = ⊤} (λ _. ReadsDeclaration) Whatever bytes tt behind → Spaces behind rest → NoWhite rest → IsBehind bytes rest
 behind_declaration bytes behind rest p s n = record {
@@ -339,11 +323,6 @@ root_told bytes middle closed found r p e t f = go r (filled_told (codes "SSAP_m
           let one = p.only false s.0 s.1 tt in
           n.only w left (subst (λ m. ReadsFilling (codes "SSAP_message") ReadsContent false w m left) one.1 s.2) tt;
     }
-
--- the element of a message begins with `<S`
-root_begins : (items : List Item) (bytes rest : List ℕ) → ReadsRoot items bytes rest → BeginsRoot bytes
-unfolding ReadsRoot
-root_begins items bytes rest x = (83 ∷ 65 ∷ 80 ∷ 95 ∷ 109 ∷ 101 ∷ 115 ∷ 115 ∷ 97 ∷ 103 ∷ 101 ∷ x.middle, x.first)
 
 -- messages
 root_of : (bytes begin : List ℕ) → IsBehind bytes begin → (envelope : Envelope) (left : List ℕ) → ReadsMessage envelope bytes left → ReadsRootOf envelope begin left

@@ -1,7 +1,6 @@
 -- Parameters are told from their attributes and their content.
-use Rattle.std.proofs.Common.{◌≡◌, ℕ, true, false, List, [], ◌∷◌, ◌++◌, Some, None, refl, sym, ◌∙◌, ap, subst, lit≤, arith}
+use Rattle.std.proofs.Common.{◌≡◌, ℕ, true, false, List, [], ◌∷◌, Some, None, refl, sym, ◌∙◌, ap, subst, arith}
 use Rattle.std.specs.Prelude.{Bool, Option, codes, flat_map, option_to_list}
-use Rattle.std.specs.List.{AllByRecursion}
 use Rattle.std.specs.Borrow.{Bor}
 use Rattle.ssap_items.specs.declared.body.Body.{Body}
 use Rattle.ssap_items.specs.declared.body.Body.TheVariants.{Text, Triples, Table}
@@ -9,36 +8,28 @@ use Rattle.ssap_items.specs.declared.body.RawTriple.{RawTriple}
 use Rattle.ssap_items.specs.declared.body.RawTable.{RawTable}
 use Rattle.ssap_items.specs.declared.envelope.Param.{Param}
 use Rattle.ssap_grammar.specs.Front.{Front, Many}
-use Rattle.ssap_grammar.specs.Characters.{IsWhite, Spaces}
-use Rattle.ssap_grammar.specs.Text.{ReadsPiece, ReadsText}
-use Rattle.ssap_grammar.specs.Text.ReadsPiece.{Plain, Reference, Cdata}
+use Rattle.ssap_grammar.specs.Characters.{Spaces}
+use Rattle.ssap_grammar.specs.Text.{ReadsText}
 use Rattle.ssap_grammar.specs.Attribute.{ReadsAttribute, ReadsAttvalue}
 use Rattle.ssap_grammar.specs.Triples.{ReadsTripleList}
-use Rattle.ssap_grammar.specs.Table.{ReadsSparql}
+use Rattle.ssap_grammar.specs.Table.{ReadsName, ReadsSparql}
 use Rattle.ssap_grammar.specs.Parameter.{ParameterAttribute, name_of, encoding_of, ReadsParameterAttribute, ReadsBody, ReadsParameter}
 use Rattle.ssap_grammar.specs.Parameter.ParameterAttribute.{Name, Encoding}
 use Rattle.ssap_text.specs.Ends.{NoWhite, BeginsFinish}
 use Rattle.m3_terms.proofs.Lists.{heads_same, tails_same}
-use Rattle.ssap_grammar.proofs.Characters.{white_small, char_byte, spaces_meet}
-use Rattle.ssap_grammar.proofs.Texts.{reference_head, section_is, piece_no_tag}
+use Rattle.ssap_grammar.proofs.Characters.{spaces_meet, spaces_nothing}
 use Rattle.ssap_grammar.proofs.Attributes.{attribute_apart, attributes_apart}
 use Rattle.ssap_grammar.proofs.Elements.{elements_apart}
 use Rattle.ssap_grammar.proofs.Contents.{Opens, opens_no_space, opens_no_close, nothing_no_name}
 use Rattle.ssap_grammar.proofs.Triples.{triple_list_opens}
 use Rattle.ssap_grammar.proofs.Tables.{name_lettered, sparql_no_name, sparql_opens}
-use Rattle.ssap_grammar.proofs.Parameters.{encoding_lettered}
+use Rattle.ssap_grammar.proofs.Parameters.{encoding_lettered, text_no_element}
 use Rattle.ssap_read.specs.Told.{Whatever, IsOnly, IsNone, Told}
 use Rattle.ssap_read.specs.Tags.{EndsTag, ReadsStart, ReadsFilling, Finished}
-use Rattle.ssap_read.specs.Attributes.{IsNamed, ReadsBoth}
+use Rattle.ssap_read.specs.Attributes.{ReadsBoth}
 use Rattle.ssap_read.proofs.Tellings.{no_white, only_parts}
 use Rattle.ssap_read.proofs.Tagged.{ElementOf, element_only, element_filling_none, element_start_none, closed_only, filled_told, ends_tag}
 use Rattle.ssap_read.proofs.Texts.{empty_text, empty_texts}
-
-pub encoding_named : IsNamed (codes "encoding")
-encoding_named = record { byte = 101; more = codes "ncoding"; is = refl; high = lit≤ tt }
-
-abbrev pub NameFront : List ℕ → Front
-NameFront value = ReadsAttribute (codes "name") (ReadsAttvalue value)
 
 abbrev pub EncodingFront : List ℕ → Front
 EncodingFront value = ReadsAttribute (codes "encoding") (ReadsAttvalue value)
@@ -47,12 +38,12 @@ abbrev List_of : List ParameterAttribute → Front
 List_of = Many ReadsParameterAttribute
 
 -- a name and an encoding are not at one place
-name_apart : (v w bytes rest left : List ℕ) → NameFront v bytes rest → ¬ (EncodingFront w bytes left)
+name_apart : (v w bytes rest left : List ℕ) → ReadsName v bytes rest → ¬ (EncodingFront w bytes left)
 name_apart v w bytes rest left x y =
     attributes_apart (codes "name") (codes "encoding") (ReadsAttvalue v) (ReadsAttvalue w) bytes rest left name_lettered encoding_lettered (λ e. absurd (omega arith)) x y
 
 -- where a name stands the attributes begin with it
-first_name : (bytes middle : List ℕ) (n : List ℕ) → IsOnly NameFront Whatever bytes n middle → (ys : List ParameterAttribute) (left : List ℕ) → List_of ys bytes left → EndsTag left
+first_name : (bytes middle : List ℕ) (n : List ℕ) → IsOnly ReadsName Whatever bytes n middle → (ys : List ParameterAttribute) (left : List ℕ) → List_of ys bytes left → EndsTag left
     → (zs : List ParameterAttribute) × (ys ≡ Name n ∷ zs) × List_of zs middle left
 first_name bytes middle n p [] left x t =
     absurd (attribute_apart (codes "name") (ReadsAttvalue n) bytes middle name_lettered p.reads (ends_tag bytes (subst EndsTag (sym x) t)))
@@ -88,7 +79,7 @@ no_encoding None e = refl
 no_encoding (Some v) e = absurd (cc)
 
 -- an encoding and then a name
-pub encoding_name_only : (bytes middle rest : List ℕ) (e n : List ℕ) → IsOnly EncodingFront Whatever bytes e middle → IsOnly NameFront Whatever middle n rest
+pub encoding_name_only : (bytes middle rest : List ℕ) (e n : List ℕ) → IsOnly EncodingFront Whatever bytes e middle → IsOnly ReadsName Whatever middle n rest
     → IsOnly ReadsBoth EndsTag bytes (n, Some e) rest
 encoding_name_only bytes middle rest e n p q = record {
   reads = record {
@@ -109,7 +100,7 @@ encoding_name_only bytes middle rest e n p q = record {
     last w left (Name v ∷ zs) f g x = absurd (two_names n v w.0 (flat_map name_of zs) f)
     last w left (Encoding v ∷ zs) f g x = absurd (two_encodings e v (flat_map encoding_of zs) w.1 g)
 
-pub encoding_no_name : (bytes middle : List ℕ) (e : List ℕ) → IsOnly EncodingFront Whatever bytes e middle → IsNone NameFront Whatever middle → IsNone ReadsBoth EndsTag bytes
+pub encoding_no_name : (bytes middle : List ℕ) (e : List ℕ) → IsOnly EncodingFront Whatever bytes e middle → IsNone ReadsName Whatever middle → IsNone ReadsBoth EndsTag bytes
 encoding_no_name bytes middle e p q w left x t =
     let a = first_encoding bytes middle e p x.attributes left x.reads t in
     last a.0 (sym (ap (flat_map name_of) a.1) ∙ x.names) (sym (ap (flat_map encoding_of) a.1) ∙ x.encodings) a.2
@@ -120,7 +111,7 @@ encoding_no_name bytes middle e p q w left x t =
     last (Encoding v ∷ zs) f g x = two_encodings e v (flat_map encoding_of zs) w.1 g
 
 -- no attribute at all
-pub neither : (bytes : List ℕ) → IsNone EncodingFront Whatever bytes → IsNone NameFront Whatever bytes → IsNone ReadsBoth EndsTag bytes
+pub neither : (bytes : List ℕ) → IsNone EncodingFront Whatever bytes → IsNone ReadsName Whatever bytes → IsNone ReadsBoth EndsTag bytes
 neither bytes p q w left x t = last x.attributes x.names x.reads
   where
     last : (zs : List ParameterAttribute) → flat_map name_of zs ≡ w.0 ∷ [] → ¬ (List_of zs bytes left)
@@ -129,7 +120,7 @@ neither bytes p q w left x t = last x.attributes x.names x.reads
     last (Encoding v ∷ zs) f y = p v y.middle y.first tt
 
 -- a name and then an encoding
-pub name_encoding_only : (bytes middle rest : List ℕ) (n e : List ℕ) → IsOnly NameFront Whatever bytes n middle → IsOnly EncodingFront Whatever middle e rest
+pub name_encoding_only : (bytes middle rest : List ℕ) (n e : List ℕ) → IsOnly ReadsName Whatever bytes n middle → IsOnly EncodingFront Whatever middle e rest
     → IsOnly ReadsBoth EndsTag bytes (n, Some e) rest
 name_encoding_only bytes middle rest n e p q = record {
   reads = record {
@@ -151,7 +142,7 @@ name_encoding_only bytes middle rest n e p q = record {
     last w left (Encoding v ∷ zs) f g x = absurd (two_encodings e v (flat_map encoding_of zs) w.1 g)
 
 -- a name alone
-pub name_only : (bytes rest : List ℕ) (n : List ℕ) → IsOnly NameFront Whatever bytes n rest → IsNone EncodingFront Whatever rest
+pub name_only : (bytes rest : List ℕ) (n : List ℕ) → IsOnly ReadsName Whatever bytes n rest → IsNone EncodingFront Whatever rest
     → IsOnly ReadsBoth EndsTag bytes (n, None) rest
 name_only bytes rest n p q = record {
   reads = record { attributes = Name n ∷ []; names = refl; encodings = refl; reads = record { middle = rest; first = p.reads; second = refl } };
@@ -165,35 +156,6 @@ name_only bytes rest n p q = record {
     last w left [] f g x = let a = sym (heads_same n w.0 [] [] f) in let b = no_encoding w.1 g in ((λ i. (a i, b i)), sym x)
     last w left (Name v ∷ zs) f g x = absurd (two_names n v w.0 (flat_map name_of zs) f)
     last w left (Encoding v ∷ zs) f g x = absurd (q v x.middle x.first tt)
-
--- a piece that begins with white space is that byte
-piece_white : (value bytes rest more : List ℕ) (white : ℕ) → IsWhite white → ReadsPiece value bytes rest → bytes ≡ white ∷ more → rest ≡ more
-piece_white value bytes rest more white w (Plain c p is x) e =
-    let small = white_small white w in
-    (char_byte c white rest more (omega (arith, small)) (sym x ∙ e)).1
-piece_white value bytes rest more white w (Reference x) e =
-    let small = white_small white w in
-    let h = reference_head value bytes rest x in
-    let n : 38 ≡ white = heads_same 38 white h.0 more (sym h.1 ∙ e) in
-    absurd (omega (arith, n, small))
-piece_white value bytes rest more white w (Cdata cs p is x) e =
-    let small = white_small white w in
-    let n : 60 ≡ white = heads_same 60 white _ more (sym (section_is cs bytes rest x) ∙ e) in
-    absurd (omega (arith, n, small))
-
--- no text up to a finishing tag begins with white space and a starting tag
-text_no_element : (pieces : List (List ℕ)) (white bytes rest after : List ℕ) → AllByRecursion IsWhite white → bytes ≡ white ++ after
-    → Many ReadsPiece pieces bytes rest → BeginsFinish rest → ¬ (Opens after)
-text_no_element [] [] bytes rest after each e x c o = opens_no_close after o (subst BeginsFinish (sym x ∙ e) c)
-text_no_element [] (w ∷ ws) bytes rest after each e x c o =
-    let small = white_small w each.0 in
-    let n : w ≡ 60 = heads_same w 60 (ws ++ after) (47 ∷ c.0) (sym e ∙ (x ∙ c.1)) in
-    absurd (omega (arith, n, small))
-text_no_element (p ∷ ps) [] bytes rest after each e x c o =
-    let high = o.high in
-    piece_no_tag p bytes x.middle o.more o.byte (λ k. absurd (omega (arith, high, k))) (e ∙ o.is) x.first
-text_no_element (p ∷ ps) (w ∷ ws) bytes rest after each e x c o =
-    text_no_element ps ws x.middle rest after each.1 (piece_white p bytes x.middle (ws ++ after) w each.0 x.first e) x.second c o
 
 no_text_here : (bytes begin : List ℕ) → Spaces bytes begin → Opens begin → (value left : List ℕ) → ReadsText value bytes left → ¬ (BeginsFinish left)
 no_text_here bytes begin s o value left x c = text_no_element x.pieces s.white bytes left begin s.each s.reads x.reads c o
@@ -269,10 +231,10 @@ empty_body : (w : Body) → ReadsBody w [] [] → w ≡ Text []
 empty_body (Text v) x = ap Text (empty_texts v x)
 empty_body (Triples ws) x =
     let o = triple_list_opens ws x.middle x.second.middle x.second.first in
-    absurd (let p = sym (Rattle.ssap_read.proofs.Words.spaces_of_nothing x.middle x.first) ∙ o.is in cc)
+    absurd (let p = sym (spaces_nothing x.middle x.first) ∙ o.is in cc)
 empty_body (Table w) x =
     let o = sparql_opens w x.middle x.second.middle x.second.first in
-    absurd (let p = sym (Rattle.ssap_read.proofs.Words.spaces_of_nothing x.middle x.first) ∙ o.is in cc)
+    absurd (let p = sym (spaces_nothing x.middle x.first) ∙ o.is in cc)
 
 pub closed_body : (closed : Bool) (bytes : List ℕ) (text : List ℕ) → closed ≡ true → text ≡ [] → IsOnly (ReadsFilling (codes "parameter") ReadsBody closed) Whatever bytes (Text text) bytes
 closed_body closed bytes text e f =

@@ -1,5 +1,5 @@
 -- Tables are told from their parts.
-use Rattle.std.proofs.Common.{◌≡◌, inl, inr, ℕ, true, false, List, [], Some, None, refl, sym, ◌∙◌, subst, lit≤}
+use Rattle.std.proofs.Common.{◌≡◌, inl, inr, ℕ, true, false, List, [], Some, None, refl, sym, ◌∙◌, subst}
 use Rattle.std.specs.Prelude.{Bool, Option, ⊤, codes}
 use Rattle.std.specs.Borrow.{Bor}
 use Rattle.ssap_items.specs.declared.body.Kind.{Kind}
@@ -11,53 +11,33 @@ use Rattle.ssap_items.specs.Canon.{kind_word}
 use Rattle.ssap_grammar.specs.Front.{Front, Word, Optional}
 use Rattle.ssap_grammar.specs.Characters.{Spaces, Quoted}
 use Rattle.ssap_grammar.specs.Text.{ReadsText}
-use Rattle.ssap_grammar.specs.Table.{ReadsName, ReadsVariable, ReadsHead, ReadsTerm, ReadsBinding, ReadsResult, ReadsResults, ReadsNamespace, ReadsSparql}
+use Rattle.ssap_grammar.specs.Table.{ReadsName, ReadsVariable, ReadsHead, ReadsTerm, ReadsBinding, ReadsResults, ReadsNamespace, ReadsSparql}
 use Rattle.ssap_text.specs.Ends.{NoWhite, BeginsFinish}
-use Rattle.ssap_grammar.proofs.Fronts.{Alone, nothing_alone, then_alone}
-use Rattle.ssap_grammar.proofs.Characters.{spaces_alone}
-use Rattle.ssap_grammar.proofs.Texts.{text_alone}
 use Rattle.ssap_grammar.proofs.Attributes.{attribute_apart}
-use Rattle.ssap_grammar.proofs.Elements.{element_alone, elements_apart}
-use Rattle.ssap_grammar.proofs.Contents.{Opens, nothing_no_name, listed_alone}
-use Rattle.ssap_grammar.proofs.Tables.{name_alone}
+use Rattle.ssap_grammar.proofs.Elements.{elements_apart}
+use Rattle.ssap_grammar.proofs.Contents.{nothing_no_name}
+use Rattle.ssap_grammar.proofs.Tables.{namespace_lettered, head_opens, term_opens, results_opens}
 use Rattle.ssap_grammar.proofs.Triples.{term_same}
 use Rattle.ssap_read.specs.Told.{Whatever, IsOnly, IsNone, Told}
 use Rattle.ssap_read.specs.Tags.{ReadsTagEnd, EndsTag, ReadsOpen, ReadsStart, ReadsFilling, ReadsBlank, Finished}
-use Rattle.ssap_read.specs.Attributes.{IsNamed}
 use Rattle.ssap_read.specs.Tables.{ReadsTableStart, ReadsBound, ReadsTableParts}
 use Rattle.ssap_read.proofs.Tellings.{only_parts}
-use Rattle.ssap_read.proofs.Tagged.{Plain, ElementOf, start_only, start_end_none, start_name_none, element_only, element_filling_none, element_start_none, closed_none, filled_told, begins_opens, ends_tag}
-use Rattle.ssap_read.proofs.Attributed.{lettered}
+use Rattle.ssap_read.proofs.Tagged.{Plain, ElementOf, start_only, start_end_none, start_name_none, element_only, element_filling_none, element_start_none, closed_none, filled_told, ends_tag}
 use Rattle.ssap_read.proofs.Around.{Around, Last, around_only, around_first_none, around_second_none, last_only}
-
-pub name_named : IsNamed (codes "name")
-name_named = record { byte = 110; more = codes "ame"; is = refl; high = lit≤ tt }
-
-pub namespace_named : IsNamed (codes "xmlns")
-namespace_named = record { byte = 120; more = codes "mlns"; is = refl; high = lit≤ tt }
-
--- variables
-pub variable_opens : (v bytes rest : List ℕ) → ReadsVariable v bytes rest → Opens bytes
-variable_opens v bytes rest x = begins_opens (codes "variable") (record { byte = 118; more = codes "ariable"; is = refl; high = lit≤ tt }) bytes rest x
-
-pub variable_alone : (v : List ℕ) → Alone (ReadsVariable v)
-variable_alone v = element_alone (codes "variable") (name_alone v) spaces_alone
-
-abbrev Blank : ⊤ → Front
-Blank _ = Spaces
+use Rattle.ssap_grammar.proofs.Characters.{spaces_nothing}
 
 pub variable_start_none : (bytes : List ℕ) → IsNone (ReadsStart (codes "variable") ReadsName) Whatever bytes → IsNone ReadsVariable Whatever bytes
-variable_start_none bytes s w left x _ = element_start_none (codes "variable") ReadsName Blank bytes s (w, tt) left x tt
+variable_start_none bytes s w left x _ = element_start_none (codes "variable") ReadsName Last bytes s (w, tt) left x tt
 
 pub variable_blank_none : (bytes middle : List ℕ) (name : List ℕ) (closed : Bool) → IsOnly (ReadsStart (codes "variable") ReadsName) Whatever bytes (name, closed) middle
     → IsNone {A = ⊤} (λ _. ReadsBlank (codes "variable") closed) Whatever middle → IsNone ReadsVariable Whatever bytes
 variable_blank_none bytes middle name closed s f w left x _ =
-    element_filling_none (codes "variable") ReadsName Blank closed bytes middle name s (λ _. f tt) (w, tt) left x tt
+    element_filling_none (codes "variable") ReadsName Last closed bytes middle name s (λ _. f tt) (w, tt) left x tt
 
 pub variable_only : (bytes middle rest : List ℕ) (name : List ℕ) (closed : Bool) → IsOnly (ReadsStart (codes "variable") ReadsName) Whatever bytes (name, closed) middle
     → IsOnly {A = ⊤} (λ _. ReadsBlank (codes "variable") closed) Whatever middle tt rest → IsOnly ReadsVariable Whatever bytes name rest
 variable_only bytes middle rest name closed s f =
-    let e = element_only (codes "variable") ReadsName Blank closed bytes middle rest name tt s
+    let e = element_only (codes "variable") ReadsName Last closed bytes middle rest name tt s
     (record { reads = f.reads; only = λ w left x _. f.only tt left x tt }) in
     record { reads = e.reads; only = λ w left x _. let one = e.only (w, tt) left x tt in ((λ i. (one.0 i).0), one.1) }
 
@@ -106,15 +86,6 @@ pub term_none : (bytes : List ℕ) → IsNone (Plain (codes "uri") ReadsText) Wh
     → IsNone (Plain (codes "bnode") ReadsText) Whatever bytes → IsNone ReadsTerm Whatever bytes
 term_none bytes u l b w left x _ = kind_none bytes u l b w.kind w.text left x
 
-kind_lettered : (k : Kind) → Rattle.ssap_grammar.proofs.Attributes.IsLettered (kind_word k)
-unfolding kind_word
-kind_lettered Uri = record { byte = 117; more = codes "ri"; is = refl; high = lit≤ tt }
-kind_lettered Literal = record { byte = 108; more = codes "iteral"; is = refl; high = lit≤ tt }
-kind_lettered Bnode = record { byte = 98; more = codes "node"; is = refl; high = lit≤ tt }
-
-term_opens : (v : RawTerm) (bytes rest : List ℕ) → ReadsTerm v bytes rest → Opens bytes
-term_opens v bytes rest x = begins_opens (kind_word v.kind) (kind_lettered v.kind) bytes rest x
-
 -- a term with white space around it
 pub bound_only : (bytes a b rest : List ℕ) (v : RawTerm) → Spaces bytes a → NoWhite a → IsOnly ReadsTerm Whatever a v b → Spaces b rest → NoWhite rest
     → IsOnly ReadsBound BeginsFinish bytes v rest
@@ -127,19 +98,11 @@ bound_none bytes a sa na x w = around_first_none ReadsTerm Last BeginsFinish ter
 
 bound_not_empty : (v : RawTerm) → ¬ (ReadsBound v [] [])
 bound_not_empty v x =
-    let e = Rattle.ssap_read.proofs.Words.spaces_of_nothing x.middle x.first in
+    let e = spaces_nothing x.middle x.first in
     let o = term_opens v x.middle x.second.middle x.second.first in
     absurd (let p = sym e ∙ o.is in cc)
 
 -- bindings
-pub binding_opens : (v : RawCell) (bytes rest : List ℕ) → ReadsBinding v bytes rest → Opens bytes
-binding_opens v bytes rest x = begins_opens (codes "binding") (record { byte = 98; more = codes "inding"; is = refl; high = lit≤ tt }) bytes rest x
-
-pub binding_alone : (v : RawCell) → Alone (ReadsBinding v)
-binding_alone v =
-    element_alone (codes "binding") (name_alone v.name)
-    (then_alone spaces_alone (then_alone (element_alone (kind_word v.value.kind) nothing_alone (text_alone v.value.text)) spaces_alone))
-
 abbrev cell_parts : RawCell → List ℕ × RawTerm
 cell_parts cell = (cell.name, cell.value)
 
@@ -171,20 +134,7 @@ binding_only bytes middle name closed found value rest s e t f =
     (subst (λ k. IsOnly (ReadsFilling (codes "binding") ReadsBound k) Whatever middle value rest.now) (sym e)
     (filled_told (codes "binding") ReadsBound middle found (Some (value, rest)) t f)))
 
--- rows
-pub result_row_opens : (vs : List RawCell) (bytes rest : List ℕ) → ReadsResult vs bytes rest → Opens bytes
-result_row_opens vs bytes rest x = begins_opens (codes "result") (record { byte = 114; more = codes "esult"; is = refl; high = lit≤ tt }) bytes rest x
-
-pub result_row_alone : (vs : List RawCell) → Alone (ReadsResult vs)
-result_row_alone vs = element_alone (codes "result") nothing_alone (listed_alone ReadsBinding binding_alone vs)
-
 -- tables
-head_opens : (vs : List (List ℕ)) (bytes rest : List ℕ) → ReadsHead vs bytes rest → Opens bytes
-head_opens vs bytes rest x = begins_opens (codes "head") (record { byte = 104; more = codes "ead"; is = refl; high = lit≤ tt }) bytes rest x
-
-results_opens : (vs : List (List RawCell)) (bytes rest : List ℕ) → ReadsResults vs bytes rest → Opens bytes
-results_opens vs bytes rest x = begins_opens (codes "results") (record { byte = 114; more = codes "esults"; is = refl; high = lit≤ tt }) bytes rest x
-
 abbrev Rows : List (List RawCell) × ⊤ → Front
 Rows = Around ReadsResults Last
 
@@ -214,14 +164,14 @@ rows_missing bytes a b c columns sa na x sc nc y w =
 
 parts_not_empty : (v : RawTable) → ¬ (ReadsTableParts v [] [])
 parts_not_empty v x =
-    let e = Rattle.ssap_read.proofs.Words.spaces_of_nothing x.middle x.first in
+    let e = spaces_nothing x.middle x.first in
     let o = head_opens v.columns x.middle x.second.middle x.second.first in
     absurd (let p = sym e ∙ o.is in cc)
 
 -- the attribute `xmlns`, where it is there and where it is not
 space_apart : (bytes rest : List ℕ) → ReadsNamespace bytes rest → ¬ (EndsTag bytes)
 space_apart bytes rest x e =
-    attribute_apart (codes "xmlns") (Quoted (λ quote. Word (codes "http://www.w3.org/2005/sparql-results#"))) bytes rest (lettered (codes "xmlns") namespace_named) x (ends_tag bytes e)
+    attribute_apart (codes "xmlns") (Quoted (λ quote. Word (codes "http://www.w3.org/2005/sparql-results#"))) bytes rest namespace_lettered x (ends_tag bytes e)
 
 with_namespace : (bytes rest : List ℕ) → IsOnly {A = ⊤} (λ _. ReadsNamespace) Whatever bytes tt rest → IsOnly {A = ⊤} (λ _. Optional ReadsNamespace) EndsTag bytes tt rest
 with_namespace bytes rest p = record { reads = inl p.reads; only = λ w left x f. (refl, go left x f) }

@@ -1,5 +1,5 @@
 -- What is told of the tags and the content of an element tells of the element.
-use Rattle.std.proofs.Common.{◌≡◌, ℕ, true, false, List, [], ◌∷◌, ◌++◌, Some, None, refl, sym, ◌∙◌, ap, subst, arith, lit<, lit≤}
+use Rattle.std.proofs.Common.{◌≡◌, ℕ, true, false, List, [], ◌∷◌, ◌++◌, Some, None, refl, sym, ◌∙◌, subst, arith, lit<, lit≤}
 use Rattle.std.specs.Prelude.{Bool, Option, ⊤, codes}
 use Rattle.std.specs.Borrow.{Bor}
 use Rattle.ssap_grammar.specs.Front.{Front, Word, Nothing, Then}
@@ -10,8 +10,7 @@ use Rattle.ssap_text.specs.Ends.{NoWhite, BeginsFinish}
 use Rattle.m3_terms.proofs.Lists.{heads_same}
 use Rattle.ssap_grammar.proofs.Fronts.{then_meet, word_meet}
 use Rattle.ssap_grammar.proofs.Characters.{NoSpace, high_no_space, spaces_meet}
-use Rattle.ssap_grammar.proofs.Attributes.{TagEnds, IsLettered}
-use Rattle.ssap_grammar.proofs.Contents.{Opens}
+use Rattle.ssap_grammar.proofs.Attributes.{TagEnds}
 use Rattle.ssap_read.specs.Told.{Whatever, IsOnly, IsNone, Told, Passed}
 use Rattle.ssap_read.specs.Tags.{tag_end, ReadsTagEnd, EndsTag, ReadsOpen, ReadsStart, ReadsPlainStart, ReadsFinish, ReadsFilling, Finished}
 use Rattle.ssap_read.proofs.Tellings.{both_only, both_second_none, both_first_none, word_only, word_none, spaced_only, spaced_none}
@@ -232,14 +231,6 @@ filled_told tag C bytes (Some b) (Some r) c f = record {
       let one = c.only w x.middle x.first (finish_begins tag x.middle left x.second) in
       (one.0 ∙ sym f.0, finish_once tag b.1.now left r.1.now (subst (λ m. ReadsFinish tag m left) one.1 x.second) f.1);
 }
-
--- an element begins with `<` and the first letter of its name
-pub begins_opens : (tag : List ℕ) {A C : Front} → IsLettered tag → (bytes rest : List ℕ) → ReadsElement tag A C bytes rest → Opens bytes
-unfolding WithBothTags SelfClosing
-begins_opens tag l bytes rest (Whole x) =
-    record { byte = l.byte; more = l.more ++ x.second.middle; is = x.first ∙ ap (λ n. 60 ∷ n) (x.second.first ∙ ap (λ n. n ++ x.second.middle) l.is); high = l.high }
-begins_opens tag l bytes rest (Empty e x) =
-    record { byte = l.byte; more = l.more ++ x.second.middle; is = x.first ∙ ap (λ n. 60 ∷ n) (x.second.first ∙ ap (λ n. n ++ x.second.middle) l.is); high = l.high }
 
 -- white space and the last `>`
 pub last_end_passed : (bytes middle : List ℕ) (r : Option (Bor (List ℕ))) → Spaces bytes middle → NoWhite middle → Passed (Word (codes ">")) Whatever middle r

@@ -1,30 +1,18 @@
 -- A triple is told from its parts.
-use Rattle.std.proofs.Common.{ℕ, List, [], refl, sym, ◌∙◌, lit≤}
-use Rattle.std.specs.Prelude.{⊤, codes}
+use Rattle.std.proofs.Common.{ℕ, List, [], sym, ◌∙◌}
+use Rattle.std.specs.Prelude.{⊤}
 use Rattle.ssap_items.specs.declared.body.RawTerm.{RawTerm}
 use Rattle.ssap_items.specs.declared.body.RawTriple.{RawTriple}
 use Rattle.ssap_grammar.specs.Front.{Front}
 use Rattle.ssap_grammar.specs.Characters.{Spaces}
-use Rattle.ssap_grammar.specs.Triples.{ReadsSubject, ReadsPredicate, ReadsObject, ReadsTriple}
+use Rattle.ssap_grammar.specs.Triples.{ReadsSubject, ReadsPredicate, ReadsObject}
 use Rattle.ssap_text.specs.Ends.{NoWhite, BeginsFinish}
-use Rattle.ssap_grammar.proofs.Contents.{Opens}
 use Rattle.ssap_read.specs.Told.{Whatever, IsOnly, IsNone}
 use Rattle.ssap_read.specs.Attributes.{ReadsParts}
-use Rattle.ssap_read.proofs.Tagged.{begins_opens}
 use Rattle.ssap_read.proofs.Tellings.{only_parts}
 use Rattle.ssap_read.proofs.Around.{Around, Last, around_only, around_first_none, around_second_none, last_only}
-
-subject_opens : (v : RawTerm) (bytes rest : List ℕ) → ReadsSubject v bytes rest → Opens bytes
-subject_opens v bytes rest x = begins_opens (codes "subject") (record { byte = 115; more = codes "ubject"; is = refl; high = lit≤ tt }) bytes rest x.reads
-
-predicate_opens : (v bytes rest : List ℕ) → ReadsPredicate v bytes rest → Opens bytes
-predicate_opens v bytes rest x = begins_opens (codes "predicate") (record { byte = 112; more = codes "redicate"; is = refl; high = lit≤ tt }) bytes rest x.reads
-
-object_opens : (v : RawTerm) (bytes rest : List ℕ) → ReadsObject v bytes rest → Opens bytes
-object_opens v bytes rest x = begins_opens (codes "object") (record { byte = 111; more = codes "bject"; is = refl; high = lit≤ tt }) bytes rest x
-
-pub triple_opens : (v : RawTriple) (bytes rest : List ℕ) → ReadsTriple v bytes rest → Opens bytes
-triple_opens v bytes rest x = begins_opens (codes "triple") (record { byte = 116; more = codes "riple"; is = refl; high = lit≤ tt }) bytes rest x
+use Rattle.ssap_grammar.proofs.Triples.{subject_opens, predicate_opens, object_opens}
+use Rattle.ssap_grammar.proofs.Characters.{spaces_nothing}
 
 -- the parts of a triple, from the last on
 abbrev Objects : RawTerm × ⊤ → Front
@@ -68,6 +56,6 @@ object_missing bytes a b c d e s p sa na x sc nc y se ne z w =
 -- the content of a triple is not empty
 pub parts_not_empty : (v : RawTriple) → ¬ (ReadsParts v [] [])
 parts_not_empty v x =
-    let e = Rattle.ssap_read.proofs.Words.spaces_of_nothing x.middle x.first in
+    let e = spaces_nothing x.middle x.first in
     let o = subject_opens v.subject x.middle x.second.middle x.second.first in
     absurd (let p = sym e ∙ o.is in cc)

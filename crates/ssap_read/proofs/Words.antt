@@ -1,13 +1,13 @@
 -- The words of a table are told.
-use Rattle.std.proofs.Common.{◌≡◌, inl, inr, ℕ, ◌≤◌, true, List, [], ◌∷◌, ◌++◌, sym, subst, arith}
-use Rattle.std.specs.Prelude.{nat_le, ⊤}
+use Rattle.std.proofs.Common.{◌≡◌, inl, inr, ℕ, true, List, [], ◌∷◌, ◌++◌, subst}
+use Rattle.std.specs.Prelude.{⊤}
 use Rattle.std.proofs.lemmas.Bool.{and_parts}
 use Rattle.ssap_grammar.specs.Front.{Then, OneOf}
 use Rattle.ssap_grammar.specs.Characters.{Spaces}
 use Rattle.ssap_text.specs.Ends.{NoWhite, BeginsFinish}
 use Rattle.ssap_grammar.proofs.Fronts.{are_apart, oneof_meet}
-use Rattle.ssap_grammar.proofs.Characters.{NoSpace, high_no_space}
-use Rattle.ssap_grammar.proofs.Contents.{is_solid, are_solid, closes_no_space}
+use Rattle.ssap_grammar.proofs.Characters.{NoSpace, spaces_nothing}
+use Rattle.ssap_grammar.proofs.Contents.{is_solid, are_solid, closes_no_space, oneof_no_space}
 use Rattle.ssap_read.specs.Told.{Whatever, IsOnly, IsNone}
 use Rattle.ssap_read.specs.Tags.{ReadsChosen}
 use Rattle.ssap_read.proofs.Tellings.{Both, both_only, spaces_only, spaced_only, spaced_none, only_where, only_parts}
@@ -30,28 +30,12 @@ absent_none [] bytes none other left x _ = x
 absent_none (entry ∷ table) bytes none other left (inl x) _ = none.0 left x.1
 absent_none (entry ∷ table) bytes none other left (inr x) _ = absent_none table bytes none.1 other left x tt
 
--- the words begin with no white space
-solid_no_space : (word bytes rest : List ℕ) → is_solid word ≡ true → bytes ≡ word ++ rest → NoSpace bytes
-solid_no_space [] bytes rest h e = absurd (cc)
-solid_no_space (byte ∷ word) bytes rest h e = high_no_space byte (word ++ rest) bytes (low byte h) e
-  where
-    low : (byte : ℕ) → nat_le 33 byte ≡ true → 33 ≤ byte
-    low byte h = grind arith
-
-pub listed_no_space : {A : Type 0} (table : List (List ℕ × A)) → are_solid table ≡ true → (value : A) (bytes rest : List ℕ)
-    → OneOf table value bytes rest → NoSpace bytes
-listed_no_space [] h value bytes rest x = absurd x
-listed_no_space (entry ∷ table) h value bytes rest (inl x) =
-    solid_no_space entry.0 bytes rest (and_parts (is_solid entry.0) (are_solid table) h).0 x.1
-listed_no_space (entry ∷ table) h value bytes rest (inr x) =
-    listed_no_space table (and_parts (is_solid entry.0) (are_solid table) h).1 value bytes rest x
-
 -- a word with white space around it
 pub chosen_only : {A : Type 0} (table : List (List ℕ × A)) → are_solid table ≡ true → (bytes begin behind rest : List ℕ) (value : A)
     → Spaces bytes begin → NoWhite begin → IsOnly (OneOf table) Whatever begin value behind → Spaces behind rest → NoWhite rest
     → IsOnly (ReadsChosen table) BeginsFinish bytes value rest
 chosen_only table solid bytes begin behind rest value s n p t m =
-    spaced_only (λ v. Then (OneOf table v) Spaces) BeginsFinish (λ v b r x _. listed_no_space table solid v b x.middle x.first) bytes begin rest value s n
+    spaced_only (λ v. Then (OneOf table v) Spaces) BeginsFinish (λ v b r x _. oneof_no_space table solid v b x.middle x.first) bytes begin rest value s n
     (only_parts (Both (OneOf table) (λ _. Spaces)) BeginsFinish (λ v. (v, tt)) begin rest value (λ w e i. (e i).0)
     (both_only (OneOf table) (λ _. Spaces) Whatever BeginsFinish (λ _ b r x _. tt) begin behind rest value tt p
     (only_where (λ _. Spaces) NoSpace BeginsFinish closes_no_space behind rest tt (spaces_only behind rest t m))))
@@ -59,7 +43,7 @@ chosen_only table solid bytes begin behind rest value s n p t m =
 pub chosen_none : {A : Type 0} (table : List (List ℕ × A)) → are_solid table ≡ true → (bytes begin : List ℕ)
     → Spaces bytes begin → NoWhite begin → IsNone (OneOf table) Whatever begin → IsNone (ReadsChosen table) BeginsFinish bytes
 chosen_none table solid bytes begin s n p =
-    spaced_none (λ v. Then (OneOf table v) Spaces) BeginsFinish (λ v b r x _. listed_no_space table solid v b x.middle x.first) bytes begin s n
+    spaced_none (λ v. Then (OneOf table v) Spaces) BeginsFinish (λ v b r x _. oneof_no_space table solid v b x.middle x.first) bytes begin s n
     (λ v left x _. p v x.middle x.first tt)
 
 -- no word is empty
@@ -72,14 +56,6 @@ not_listed (entry ∷ table) h value rest (inl x) = go entry.0 (and_parts (is_so
     go (byte ∷ word) h e = absurd (cc)
 not_listed (entry ∷ table) h value rest (inr x) = not_listed table (and_parts (is_solid entry.0) (are_solid table) h).1 value rest x
 
--- no white space is empty bytes
-pub spaces_of_nothing : (rest : List ℕ) → Spaces [] rest → rest ≡ []
-spaces_of_nothing rest x = go x.white x.reads
-  where
-    go : (white : List ℕ) → [] ≡ white ++ rest → rest ≡ []
-    go [] e = sym e
-    go (byte ∷ white) e = absurd (cc)
-
 pub chosen_not_empty : {A : Type 0} (table : List (List ℕ × A)) → are_solid table ≡ true → (value : A) → ¬ (ReadsChosen table value [] [])
 chosen_not_empty table solid value x =
-    not_listed table solid value x.second.middle (subst (λ m. OneOf table value m x.second.middle) (spaces_of_nothing x.middle x.first) x.second.first)
+    not_listed table solid value x.second.middle (subst (λ m. OneOf table value m x.second.middle) (spaces_nothing x.middle x.first) x.second.first)

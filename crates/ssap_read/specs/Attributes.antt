@@ -1,5 +1,5 @@
 -- The parts of an attribute, and elements of a text with an attribute of their kind.
-use Rattle.std.specs.Prelude.{◌≡◌, ℕ, ◌≤◌, List, [], ◌∷◌, Option}
+use Rattle.std.specs.Prelude.{ℕ, List, [], ◌∷◌, Option}
 use Rattle.ssap_items.specs.declared.body.Kind.{Kind}
 use Rattle.ssap_items.specs.declared.body.Kind.TheVariants.{Uri, Literal, Bnode}
 use Rattle.ssap_items.specs.declared.body.RawTriple.{RawTriple}
@@ -10,13 +10,6 @@ use Rattle.ssap_grammar.specs.Attribute.{Equals}
 use Rattle.ssap_grammar.specs.Parameter.{ReadsParameterAttributes}
 use Rattle.ssap_grammar.specs.Element.{ReadsElement}
 use Rattle.ssap_grammar.specs.Triples.{ReadsType, ReadsSubject, ReadsPredicate, ReadsObject}
-
--- a name begins with a small letter
-pub record IsNamed (name : List ℕ) : Type 0 where
-  pub byte : ℕ
-  pub more : List ℕ
-  pub is : name ≡ byte ∷ more
-  pub high : 97 ≤ byte
 
 -- an attribute up to its value
 abbrev pub ReadsAttributeName : List ℕ → Front

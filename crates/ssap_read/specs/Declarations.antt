@@ -1,14 +1,9 @@
 -- The declaration of a message.
-use Rattle.std.specs.Prelude.{◌≡◌, ℕ, List, ◌∷◌, ⊤, codes}
+use Rattle.std.specs.Prelude.{ℕ, List, ⊤, codes}
 use Rattle.ssap_grammar.specs.Front.{Front, Word, ◌then◌, Optional}
-use Rattle.ssap_grammar.specs.Characters.{Spaces, Quoted}
-use Rattle.ssap_grammar.specs.Attribute.{ReadsAttribute}
-use Rattle.ssap_grammar.specs.Message.{ReadsUtf8Name, ReadsDeclaration}
+use Rattle.ssap_grammar.specs.Characters.{Spaces}
+use Rattle.ssap_grammar.specs.Message.{ReadsEncoding, ReadsDeclaration, BeginsRoot}
 use Rattle.ssap_read.specs.Told.{IsOnly}
-
--- the attribute `encoding` of a declaration
-abbrev pub ReadsEncoding : Front
-ReadsEncoding = ReadsAttribute (codes "encoding") (Quoted (λ quote. ReadsUtf8Name))
 
 -- the end of a declaration
 abbrev pub ReadsDeclarationEnd : Front
@@ -21,10 +16,6 @@ EndsDeclaration bytes = (rest : List ℕ) × ReadsDeclarationEnd bytes rest
 -- perhaps the attribute `encoding` was passed
 abbrev pub IsBehindEncoding : List ℕ → List ℕ → Type 0
 IsBehindEncoding bytes rest = IsOnly {A = ⊤} (λ _. Optional ReadsEncoding) EndsDeclaration bytes tt rest
-
--- the element of a message begins here
-abbrev pub BeginsRoot : List ℕ → Type 0
-BeginsRoot bytes = (more : List ℕ) × (bytes ≡ 60 ∷ 83 ∷ more)
 
 -- perhaps a declaration was passed
 abbrev pub IsBehind : List ℕ → List ℕ → Type 0

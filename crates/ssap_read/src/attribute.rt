@@ -2,9 +2,9 @@ ghost use Rattle.std.specs.Prelude.{◌≡◌, ◌∷◌, ℕ, List, IfSome, IfN
 ghost use Rattle.ssap_grammar.specs.Front.{Word};
 ghost use Rattle.ssap_grammar.specs.Characters.{IsQuote, Quoted};
 ghost use Rattle.ssap_text.specs.Ends.{NoWhite};
-ghost use Rattle.ssap_grammar.specs.Attribute.{ReadsAttribute, ReadsAttvalue};
+ghost use Rattle.ssap_grammar.specs.Attribute.{IsLettered, ReadsAttribute, ReadsAttvalue};
 ghost use Rattle.ssap_read.specs.Told.{Told, Passed, Whatever};
-ghost use Rattle.ssap_read.specs.Attributes.{IsNamed, ReadsAttributeName};
+ghost use Rattle.ssap_read.specs.Attributes.{ReadsAttributeName};
 
 use m3_terms::{NoMemory, Text};
 use ssap_text::{read_attvalue, skip_spaces};
@@ -12,7 +12,7 @@ use std::alloc::Global;
 
 /// The bytes of the value of the attribute with this name, which has white space before it.
 pub fn attribute<'a>(name: &[u8], bytes: &'a [u8]) -> Option<&'a [u8]>
-    ensures { IsNamed name.now → Passed (ReadsAttributeName name.now) NoWhite bytes.now result }
+    ensures { IsLettered name.now → Passed (ReadsAttributeName name.now) NoWhite bytes.now result }
 {
     let begin = skip_spaces(bytes);
     if begin.len() == bytes.len() {
@@ -51,7 +51,7 @@ pub fn value_attribute<'a>(
     name: &[u8],
     bytes: &'a [u8],
 ) -> Result<Option<(Text, &'a [u8])>, NoMemory>
-    ensures { IsNamed name.now → IfOk result (Told (λ value. ReadsAttribute name.now (ReadsAttvalue value)) Whatever bytes.now) }
+    ensures { IsLettered name.now → IfOk result (Told (λ value. ReadsAttribute name.now (ReadsAttvalue value)) Whatever bytes.now) }
 {
     let Some(rest) = attribute(name, bytes) else {
         return Ok(None);

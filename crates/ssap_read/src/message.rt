@@ -1,10 +1,10 @@
 ghost use Rattle.std.specs.Prelude.{ℕ, List, IfOk, IfSome, IfNone};
 ghost use Rattle.ssap_items.specs.declared.envelope.Envelope.{Envelope};
-ghost use Rattle.ssap_grammar.specs.Message.{ReadsDeclaration, Spells};
+ghost use Rattle.ssap_grammar.specs.Message.{ReadsEncoding, ReadsDeclaration, Spells};
 ghost use Rattle.ssap_text.specs.Ends.{BeginsFinish};
 ghost use Rattle.ssap_read.specs.Told.{Told, Passed, Whatever};
 ghost use Rattle.ssap_read.specs.Pieces.{ReadsContent, ReadsRootOf};
-ghost use Rattle.ssap_read.specs.Declarations.{ReadsEncoding, IsBehindEncoding, IsBehind};
+ghost use Rattle.ssap_read.specs.Declarations.{IsBehindEncoding, IsBehind};
 
 use crate::attribute::{attribute, quoted};
 use crate::element::{closes, finished, start};

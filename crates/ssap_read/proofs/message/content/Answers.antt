@@ -1,7 +1,7 @@
 use Rattle.std.proofs.Common.{refl}
 use Rattle.std.proofs.lemmas.Bool.{false≢true}
 use Rattle.ssap_read.proofs.Each.{shorter}
-use Rattle.ssap_read.proofs.Items.{item_opens, item_alone}
+use Rattle.ssap_grammar.proofs.Messages.{item_opens, item_alone}
 use Rattle.ssap_read.proofs.Messaging.{reading_begins, item_missing, item_twice, item_taken, head_missing, content_only}
 use Rattle.ssap_read.proofs.message.content.Goals as goal
 

@@ -1,9 +1,8 @@
 use Rattle.std.proofs.Common.{refl}
 use Rattle.std.proofs.lemmas.Bool.{false≢true}
 use Rattle.ssap_grammar.specs.Table.{ReadsBinding}
-use Rattle.ssap_read.proofs.TableParts.{binding_alone}
+use Rattle.ssap_grammar.proofs.Tables.{binding_alone, binding_opens}
 use Rattle.ssap_read.proofs.Each.{begin, more, each_only, each_none, shorter}
-use Rattle.ssap_read.proofs.TableParts.{binding_opens}
 use Rattle.ssap_read.proofs.table.each_binding.Goals as goal
 
 pub each-init : goal.each-init

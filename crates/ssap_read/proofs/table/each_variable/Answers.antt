@@ -1,9 +1,8 @@
 use Rattle.std.proofs.Common.{refl}
 use Rattle.std.proofs.lemmas.Bool.{false≢true}
 use Rattle.ssap_grammar.specs.Table.{ReadsVariable}
-use Rattle.ssap_read.proofs.TableParts.{variable_alone}
+use Rattle.ssap_grammar.proofs.Tables.{variable_alone, variable_opens}
 use Rattle.ssap_read.proofs.Each.{begin, more, each_only, each_none, shorter}
-use Rattle.ssap_read.proofs.TableParts.{variable_opens}
 use Rattle.ssap_read.proofs.table.each_variable.Goals as goal
 
 pub each-init : goal.each-init

@@ -3,7 +3,7 @@ use Rattle.ssap_grammar.specs.Table.{ReadsBinding}
 use Rattle.ssap_read.specs.Tags.{ReadsEach}
 use Rattle.ssap_read.proofs.Tagged.{plain_none, plain_filled, plain_closed}
 use Rattle.ssap_read.proofs.Each.{no_things, only_no_things}
-use Rattle.ssap_read.proofs.TableParts.{binding_opens}
+use Rattle.ssap_grammar.proofs.Tables.{binding_opens}
 use Rattle.ssap_read.proofs.table.result_row.Goals as goal
 
 pub returns-in_default : goal.returns-in_default

@@ -1,9 +1,8 @@
 use Rattle.std.proofs.Common.{refl}
 use Rattle.std.proofs.lemmas.Bool.{false≢true}
 use Rattle.ssap_grammar.specs.Triples.{ReadsTriple}
-use Rattle.ssap_grammar.proofs.Triples.{triple_alone}
+use Rattle.ssap_grammar.proofs.Triples.{triple_alone, triple_opens}
 use Rattle.ssap_read.proofs.Each.{begin, more, each_only, each_none, shorter}
-use Rattle.ssap_read.proofs.TripleParts.{triple_opens}
 use Rattle.ssap_read.proofs.triple.each_triple.Goals as goal
 
 pub each-init : goal.each-init

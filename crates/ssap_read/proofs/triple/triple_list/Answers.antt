@@ -3,7 +3,7 @@ use Rattle.ssap_grammar.specs.Triples.{ReadsTriple}
 use Rattle.ssap_read.specs.Tags.{ReadsEach}
 use Rattle.ssap_read.proofs.Tagged.{plain_none, plain_filled, plain_closed}
 use Rattle.ssap_read.proofs.Each.{no_things, only_no_things}
-use Rattle.ssap_read.proofs.TripleParts.{triple_opens}
+use Rattle.ssap_grammar.proofs.Triples.{triple_opens}
 use Rattle.ssap_read.proofs.triple.triple_list.Goals as goal
 
 pub returns-in_default : goal.returns-in_default
