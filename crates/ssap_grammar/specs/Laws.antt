@@ -66,6 +66,11 @@ UnfinishedBegins = (bytes : List ℕ) (start : ℕ) (more : List ℕ) (messages 
 abbrev pub CanonicalSpells : Type 0
 CanonicalSpells = (envelope : Envelope) → IsSayable envelope → Spells (canonical envelope) envelope
 
+-- what the canonical spelling of a sayable envelope is read as is that envelope, and has the same canonical spelling
+abbrev pub CanonicalStays : Type 0
+CanonicalStays = (envelope other : Envelope) → IsSayable envelope → Spells (canonical envelope) other
+    → (other ≡ envelope) × (canonical other ≡ canonical envelope)
+
 -- bytes have one place, one whole and one list of messages
 abbrev pub PlacesOnce : Type 0
 PlacesOnce = (bytes : List ℕ) (m n : ℕ) → IsPlace bytes m → IsPlace bytes n → m ≡ n

@@ -1,7 +1,7 @@
 //! Laws of the grammar. Each function does nothing: its contract is the law.
 
 ghost use Rattle.ssap_grammar.specs.Examples.{EitherQuote, QuotesAgree, EmptyText, NoSpaceInEnd, NoEmptyWord, CdataSection, NoSmallCdata, ReferenceInText, NoCapitalReference, SpacesInTags, NoSpaceBeforeName, BlankText, OneName, OneMessage, OneNodeId};
-ghost use Rattle.ssap_grammar.specs.Laws.{MessagesAreTold, SpellsOnce, NoneBegins, CanonicalSpells, MessagesAreSpelled, SpellingsAreRead, StreamsOnce, MessagesStay, SpacesAddNone, MessagesAddOne, UnfinishedBegins, PlacesOnce, WholesOnce, StreamsAreWhole, PartsAreInside, DeadEnds};
+ghost use Rattle.ssap_grammar.specs.Laws.{MessagesAreTold, SpellsOnce, NoneBegins, CanonicalSpells, CanonicalStays, MessagesAreSpelled, SpellingsAreRead, StreamsOnce, MessagesStay, SpacesAddNone, MessagesAddOne, UnfinishedBegins, PlacesOnce, WholesOnce, StreamsAreWhole, PartsAreInside, DeadEnds};
 ghost use Rattle.ssap_grammar.specs.Stream.{Stream};
 ghost use Rattle.ssap_grammar.specs.Vectors.{JoinRequest, JoinCanonical, IndicationCanonical};
 ghost use Rattle.std.specs.Prelude.{[]};
@@ -13,9 +13,10 @@ pub fn one_reading()
     ensures begins { NoneBegins }
 {}
 
-/// What is written canonically is read again.
+/// What is written canonically is read again, and what is read back is written as it was.
 pub fn canonical_spells()
-    ensures { CanonicalSpells }
+    ensures spells { CanonicalSpells }
+    ensures stays { CanonicalStays }
 {}
 
 /// A message is some bytes of its own, and what follows has no part in it.
