@@ -10,6 +10,7 @@ use ssap_items::{
     Transaction,
 };
 use std::alloc::Global;
+use std::process::Abort;
 use std::test::*;
 
 // A term: its first letter is u for a uri, l for a literal or b for a blank node.
@@ -184,15 +185,38 @@ const SYNTAX: &str = "m3:KP.Error.Message.Syntax";
 
 const UNBUILT: &str = "m3:SIB.Failure.NotImplemented";
 
+// Each request of this table comes to what stands beside it.
+fn come_to(
+    rt: &impl Abort,
+    alloc: Global,
+    cases: &[(Transaction, &str, &str)],
+) -> Result<(), Fail> {
+    for (transaction, line, wanted) in cases {
+        assert_eq!(rt;
+            shaped(alloc, *transaction, line)?.as_slice(),
+            wanted.as_bytes()
+        );
+    }
+    Ok(())
+}
+
 #[test]
-fn shapes_requests(rt: HostRuntime) -> Result<(), Fail> {
-    use Transaction::{Insert, Join, Leave, Query, Remove, Subscribe, Unsubscribe, Update};
+fn shapes_sessions(rt: HostRuntime) -> Result<(), Fail> {
+    use Transaction::{Join, Leave};
     let cases = [
         (Join, "", "join"),
         (Join, "credentials=:b p b", "join"),
         (Join, "confirm=TRUE", SYNTAX),
         (Leave, "", "leave"),
         (Leave, "credentials=x", SYNTAX),
+    ];
+    come_to(&rt, rt.alloc(), &cases)
+}
+
+#[test]
+fn shapes_inserts(rt: HostRuntime) -> Result<(), Fail> {
+    use Transaction::Insert;
+    let cases = [
         (Insert, "insert_graph=:ua p lx", "- + ua up lx; yes"),
         (
             Insert,
@@ -218,6 +242,14 @@ fn shapes_requests(rt: HostRuntime) -> Result<(), Fail> {
         (Insert, "insert_graph@RDF-XML=x", UNBUILT),
         (Insert, "insert_graph@RDF-XML=:u  lx", UNBUILT),
         (Insert, "insert_graph@RDF-XML=x|confirm=maybe", SYNTAX),
+    ];
+    come_to(&rt, rt.alloc(), &cases)
+}
+
+#[test]
+fn shapes_updates(rt: HostRuntime) -> Result<(), Fail> {
+    use Transaction::{Remove, Update};
+    let cases = [
         (
             Remove,
             "remove_graph=:usib:any sib:any lx",
@@ -230,6 +262,14 @@ fn shapes_requests(rt: HostRuntime) -> Result<(), Fail> {
         ),
         (Update, "insert_graph=x", INCOMPLETE),
         (Update, "insert_graph=:ba p lx|remove_graph=x", SYNTAX),
+    ];
+    come_to(&rt, rt.alloc(), &cases)
+}
+
+#[test]
+fn shapes_queries(rt: HostRuntime) -> Result<(), Fail> {
+    use Transaction::{Query, Subscribe, Unsubscribe};
+    let cases = [
         (
             Query,
             "query=:ua http://www.nokia.com/NRC/M3/sib#any lx|type=rdf-m3",
@@ -245,13 +285,7 @@ fn shapes_requests(rt: HostRuntime) -> Result<(), Fail> {
         (Unsubscribe, "subscription_id=07", "unsubscribe 07"),
         (Unsubscribe, "subscription_id=:ua p lx", SYNTAX),
     ];
-    for (transaction, line, wanted) in &cases {
-        assert_eq!(rt;
-            shaped(rt.alloc(), *transaction, line)?.as_slice(),
-            wanted.as_bytes()
-        );
-    }
-    Ok(())
+    come_to(&rt, rt.alloc(), &cases)
 }
 
 // The text of this many letters a.
