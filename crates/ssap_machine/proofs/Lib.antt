@@ -12,3 +12,4 @@ pub mod Lexemes
 pub mod Apart
 pub mod Walking
 pub mod Completions
+pub mod Starts
