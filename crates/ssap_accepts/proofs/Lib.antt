@@ -17,3 +17,4 @@ pub mod Left
 pub mod Items
 pub mod ItemsRun
 pub mod Messages
+pub mod Existing

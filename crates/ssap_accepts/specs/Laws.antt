@@ -1,7 +1,8 @@
--- The machine and the grammar say the same of which bytes are a message.
-use Rattle.std.specs.Prelude.{ℕ, List}
+-- The machine and the grammar say the same of which bytes are a message, and what is so found of all bytes.
+use Rattle.std.specs.Prelude.{◌⊎◌, ℕ, List}
 use Rattle.ssap_items.specs.declared.envelope.Envelope.{Envelope}
 use Rattle.ssap_grammar.specs.Message.{Spells}
+use Rattle.ssap_grammar.specs.Stream.{IsViable}
 use Rattle.ssap_machine.specs.Machine.{IsMessage}
 
 -- what spells an envelope the machine accepts as a message
@@ -11,3 +12,7 @@ AcceptsSpelled = (bytes : List ℕ) (envelope : Envelope) → Spells bytes envel
 -- and what it accepts spells an envelope
 abbrev pub AcceptedSpells : Type 0
 AcceptedSpells = (bytes : List ℕ) → IsMessage bytes → (envelope : Envelope) × Spells bytes envelope
+
+-- bytes are the front of some stream or of none
+abbrev pub ViabilityIsDecided : Type 0
+ViabilityIsDecided = (bytes : List ℕ) → IsViable bytes ⊎ (IsViable bytes → ⊥)

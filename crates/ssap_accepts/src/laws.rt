@@ -1,9 +1,14 @@
-//! The law of the machine and the grammar. The function does nothing: its contract is the law.
+//! Laws of the machine and the grammar. Each function does nothing: its contract is the law.
 
-ghost use Rattle.ssap_accepts.specs.Laws.{AcceptsSpelled, AcceptedSpells};
+ghost use Rattle.ssap_accepts.specs.Laws.{AcceptsSpelled, AcceptedSpells, ViabilityIsDecided};
 
 /// The machine accepts the spellings of envelopes and no other bytes.
 pub fn machine_reads_messages()
     ensures spelled { AcceptsSpelled }
     ensures accepted { AcceptedSpells }
+{}
+
+/// Of all bytes it can be found whether some stream begins with them.
+pub fn viability_is_decided()
+    ensures { ViabilityIsDecided }
 {}
