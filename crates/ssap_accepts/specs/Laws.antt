@@ -2,7 +2,7 @@
 use Rattle.std.specs.Prelude.{◌⊎◌, ℕ, List}
 use Rattle.ssap_items.specs.declared.envelope.Envelope.{Envelope}
 use Rattle.ssap_grammar.specs.Message.{Spells}
-use Rattle.ssap_grammar.specs.Stream.{IsViable}
+use Rattle.ssap_grammar.specs.Stream.{Placed, IsViable, IsPlace, IsWhole, AreMessages}
 use Rattle.ssap_machine.specs.Machine.{IsMessage}
 
 -- what spells an envelope the machine accepts as a message
@@ -13,6 +13,18 @@ AcceptsSpelled = (bytes : List ℕ) (envelope : Envelope) → Spells bytes envel
 abbrev pub AcceptedSpells : Type 0
 AcceptedSpells = (bytes : List ℕ) → IsMessage bytes → (envelope : Envelope) × Spells bytes envelope
 
--- bytes are the front of some stream or of none
+-- all bytes are the front of some stream or of none
 abbrev pub ViabilityIsDecided : Type 0
 ViabilityIsDecided = (bytes : List ℕ) → IsViable bytes ⊎ (IsViable bytes → ⊥)
+
+-- all bytes have a longest front that is a stream
+abbrev pub WholesExist : Type 0
+WholesExist = (bytes : List ℕ) → (whole : ℕ) × IsWhole bytes whole
+
+-- so they have messages
+abbrev pub MessagesExist : Type 0
+MessagesExist = (bytes : List ℕ) → (messages : List Placed) × AreMessages bytes messages
+
+-- and a longest front that is viable
+abbrev pub PlacesExist : Type 0
+PlacesExist = (bytes : List ℕ) → (place : ℕ) × IsPlace bytes place

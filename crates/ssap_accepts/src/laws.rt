@@ -1,6 +1,6 @@
 //! Laws of the machine and the grammar. Each function does nothing: its contract is the law.
 
-ghost use Rattle.ssap_accepts.specs.Laws.{AcceptsSpelled, AcceptedSpells, ViabilityIsDecided};
+ghost use Rattle.ssap_accepts.specs.Laws.{AcceptsSpelled, AcceptedSpells, ViabilityIsDecided, WholesExist, MessagesExist, PlacesExist};
 
 /// The machine accepts the spellings of envelopes and no other bytes.
 pub fn machine_reads_messages()
@@ -11,4 +11,11 @@ pub fn machine_reads_messages()
 /// Of all bytes it can be found whether some stream begins with them.
 pub fn viability_is_decided()
     ensures { ViabilityIsDecided }
+{}
+
+/// All bytes have a whole, messages and a place, so what is said of them is said of some.
+pub fn wholes_exist()
+    ensures wholes { WholesExist }
+    ensures messages { MessagesExist }
+    ensures places { PlacesExist }
 {}

@@ -3,4 +3,4 @@
 
 mod laws;
 
-pub use laws::{machine_reads_messages, viability_is_decided};
+pub use laws::{machine_reads_messages, viability_is_decided, wholes_exist};
