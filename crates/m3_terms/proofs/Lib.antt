@@ -2,3 +2,4 @@ pub mod Lists
 pub mod TextFronts
 pub mod TextHad
 pub mod TextLaws
+pub mod Starts

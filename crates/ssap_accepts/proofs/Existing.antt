@@ -15,7 +15,8 @@ use Rattle.ssap_grammar.proofs.StreamParts.{part_whole, part_viable}
 use Rattle.ssap_machine.specs.Machine.{IsMessage}
 use Rattle.ssap_machine.specs.declared.symbol.Symbol.TheVariants.{Message}
 use Rattle.ssap_machine.proofs.Completions.{symbols_end}
-use Rattle.ssap_machine.proofs.Starts.{Start, Found, Half, Stuck, start_map, start_symbols}
+use Rattle.m3_terms.proofs.Starts.{Start, Found, Half, Stuck, start_map}
+use Rattle.ssap_machine.proofs.Starts.{start_symbols}
 use Rattle.ssap_accepts.proofs.Messages.{spelled, accepted}
 
 -- bytes spell some envelope

@@ -1,11 +1,11 @@
--- Whether bytes begin with a word of some set, or some word begins with them, or neither.
+-- Whether bytes begin with all that some symbols accept, or are a front of it, or lead nowhere.
 use Rattle.std.proofs.Common.{◌≡◌, ◌⊎◌, inl, inr, ℕ, zero, suc, ◌<◌, Bool, true, false, List, [], ◌∷◌, ◌++◌, length, refl, sym, ◌∙◌, ap, subst, append_assoc, length-append, arith}
 use Rattle.std.specs.Prelude.{encode_utf8, ◌≢◌}
 use Rattle.std.specs.List.{AllByRecursion}
 use Rattle.std.proofs.lemmas.Bool.{cases_lt, both_ways}
 use Rattle.std.proofs.lemmas.List.{append-nil}
 use Rattle.m3_terms.specs.Text.{is_allowed, IsAllowed}
-use Rattle.m3_terms.proofs.Lists.{heads_same, tails_same}
+use Rattle.m3_terms.proofs.Starts.{Start, Found, Half, Stuck, start_map, start_never, start_either, number_same, start_word, start_below}
 use Rattle.ssap_grammar.specs.Characters.{is_white, IsWhite}
 use Rattle.ssap_grammar.proofs.Characters.{white_small}
 use Rattle.ssap_machine.specs.Words.{Lexeme, Word, White, Except, IsLexeme}
@@ -16,81 +16,6 @@ use Rattle.ssap_machine.proofs.Encodings.{allowed_ranges}
 use Rattle.ssap_machine.proofs.Apart.{begins_once, begins_some}
 use Rattle.ssap_machine.proofs.Walking.{accepts_begins}
 use Rattle.ssap_machine.proofs.Completions.{symbols_end, goes_from}
-
--- the bytes begin with a word, or are the front of one and not the whole of it, or go on to none
-pub data Start (W : List ℕ → Type 0) (bytes : List ℕ) : Type 0 where
-  Found : (word rest : List ℕ) → W word → bytes ≡ word ++ rest → Start W bytes
-  Half : (more : List ℕ) → 0 < length more → W (bytes ++ more) → Start W bytes
-  Stuck : ((word more rest : List ℕ) → W word → ¬ (bytes ++ more ≡ word ++ rest)) → Start W bytes
-
--- the same of words that are the same
-pub start_map : (V W : List ℕ → Type 0) (bytes : List ℕ) → ((word : List ℕ) → V word → W word) → ((word : List ℕ) → W word → V word)
-    → Start V bytes → Start W bytes
-start_map V W bytes to from (Found word rest x is) = Found word rest (to word x) is
-start_map V W bytes to from (Half more some x) = Half more some (to (bytes ++ more) x)
-start_map V W bytes to from (Stuck none) = Stuck (λ word more rest x. none word more rest (from word x))
-
--- no word
-start_never : (W : List ℕ → Type 0) (bytes : List ℕ) → ((word : List ℕ) → ¬ (W word)) → Start W bytes
-start_never W bytes none = Stuck (λ word more rest x is. none word x)
-
--- words of either set
-start_either : (V W : List ℕ → Type 0) (bytes : List ℕ) → Start V bytes → Start W bytes → Start (λ word. V word ⊎ W word) bytes
-start_either V W bytes (Found word rest x is) s = Found word rest (inl x) is
-start_either V W bytes (Half more some x) (Found word rest y is) = Found word rest (inr y) is
-start_either V W bytes (Half more some x) (Half others any y) = Half more some (inl x)
-start_either V W bytes (Half more some x) (Stuck none) = Half more some (inl x)
-start_either V W bytes (Stuck none) (Found word rest y is) = Found word rest (inr y) is
-start_either V W bytes (Stuck none) (Half more some y) = Half more some (inr y)
-start_either V W bytes (Stuck none) (Stuck never) =
-    Stuck (λ word more rest x. elim x [ inl v ↦ none word more rest v | inr w ↦ never word more rest w ])
-
--- two numbers are one or not
-number_same : (x y : ℕ) → (x ≡ y) ⊎ (x ≢ y)
-number_same x y = elim (cases_lt x y) [
-  | inl less ↦ inr (λ e. omega arith)
-  | inr more ↦ elim (cases_lt y x) [
-    | inl less ↦ inr (λ e. omega arith)
-    | inr same ↦ inl (omega arith)
-  ]
-]
-
--- one word
-start_word : (word bytes : List ℕ) → Start (λ other. other ≡ word) bytes
-start_word [] bytes = Found [] bytes refl refl
-start_word (x ∷ word) [] = Half (x ∷ word) (omega arith) refl
-start_word (x ∷ word) (y ∷ bytes) = elim (number_same y x) [
-  | inl same ↦ go same (start_word word bytes)
-  | inr other ↦ Stuck (λ w more rest e is. other (heads_same y x (bytes ++ more) (word ++ rest) (is ∙ ap (λ l. l ++ rest) e)))
-]
-  where
-    go : y ≡ x → Start (λ other. other ≡ word) bytes → Start (λ other. other ≡ x ∷ word) (y ∷ bytes)
-    go same (Found w rest e is) =
-        let all : bytes ≡ word ++ rest = is ∙ ap (λ l. l ++ rest) e in
-        Found (x ∷ word) rest refl (cc)
-    go same (Half more some e) = Half more some (cc)
-    go same (Stuck none) =
-        Stuck (λ w more rest e is. none word more rest refl (tails_same y x (bytes ++ more) (word ++ rest) (is ∙ ap (λ l. l ++ rest) e)))
-
--- the words of each number below another
-start_below : (W : ℕ → List ℕ → Type 0) (bytes : List ℕ) → ((c : ℕ) → Start (W c) bytes) → (n : ℕ)
-    → Start (λ word. (c : ℕ) × (c < n) × W c word) bytes
-start_below W bytes each zero = start_never _ bytes (λ word x. let low = x.1 in omega (arith, low))
-start_below W bytes each (suc n) =
-    start_map _ _ bytes to from (start_either (W n) (λ word. (c : ℕ) × (c < n) × W c word) bytes (each n) (start_below W bytes each n))
-  where
-    to : (word : List ℕ) → W n word ⊎ ((c : ℕ) × (c < n) × W c word) → (c : ℕ) × (c < suc n) × W c word
-    to word (inl x) = (n, omega arith, x)
-    to word (inr x) = let low = x.1 in (x.0, omega (arith, low), x.2)
-
-    from : (word : List ℕ) → ((c : ℕ) × (c < suc n) × W c word) → W n word ⊎ ((c : ℕ) × (c < n) × W c word)
-    from word x = elim (cases_lt x.0 n) [
-      | inl less ↦ inr (x.0, less, x.2)
-      | inr most ↦
-          let low = x.1 in
-          let same : x.0 ≡ n = omega (arith, low) in
-          inl (subst (λ c. W c word) same x.2)
-    ]
 
 -- a byte of white space
 start_white : (bytes : List ℕ) → Start (IsLexeme White) bytes
