@@ -2,3 +2,4 @@ pub mod ScriptLaws
 pub mod Counts
 pub mod Steps
 pub mod Reading
+pub mod Existing

@@ -47,3 +47,11 @@ EntriesGrow = (entries : List Entry) (entry : Entry)
     → (AreEntries (entries ++ entry ∷ []) → AreEntries entries × IsEntry entry)
     × (AreEntries entries → IsEntry entry → AreEntries (entries ++ entry ∷ []))
     × (script_spelling (entries ++ entry ∷ []) ≡ script_spelling entries ++ entry_spelling entry)
+
+-- all bytes split into whole entries and a rest
+abbrev pub SplitsExist : Type 0
+SplitsExist = (bytes : List ℕ) → (entries : List Entry) × (rest : List ℕ) × Splits bytes entries rest
+
+-- some script begins with the bytes or none does
+abbrev pub BeginningIsDecided : Type 0
+BeginningIsDecided = (bytes : List ℕ) → BeginsScript bytes ⊎ (BeginsScript bytes → ⊥)

@@ -1,6 +1,6 @@
 //! Laws of the format of scripts. Each function does nothing: its contract is the law.
 
-ghost use Rattle.sib_script.specs.Laws.{EntriesAreTold, SplitsOnce, SplitsGrow, ScriptsSplit, RestIsNoScript, PartsSplit, DeadEnds, EntriesGrow};
+ghost use Rattle.sib_script.specs.Laws.{EntriesAreTold, SplitsOnce, SplitsGrow, ScriptsSplit, RestIsNoScript, PartsSplit, DeadEnds, EntriesGrow, SplitsExist, BeginningIsDecided};
 
 /// Bytes are read as entries in one way, and what was read stays as more bytes follow.
 pub fn one_reading()
@@ -25,4 +25,11 @@ pub fn parts_begin_scripts()
 /// Entries are put together one by one.
 pub fn entries_grow()
     ensures { EntriesGrow }
+{}
+
+/// All bytes split into whole entries and a rest, so what is said of a split is said of one, and of all bytes it can be
+/// found whether some script begins with them.
+pub fn splits_exist()
+    ensures splits { SplitsExist }
+    ensures begins { BeginningIsDecided }
 {}
