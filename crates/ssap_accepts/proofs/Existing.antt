@@ -1,5 +1,5 @@
 -- Each list of bytes has a whole, messages and a place, and is viable or not.
-use Rattle.std.proofs.Common.{◌≡◌, ◌⊎◌, inl, inr, ℕ, zero, suc, ◌+◌, ◌-◌, ◌<◌, ◌≤◌, List, [], ◌∷◌, ◌++◌, length, take, drop, refl, sym, ◌∙◌, ap, subst, append_assoc, length-append, arith}
+use Rattle.std.proofs.Common.{◌≡◌, ◌⊎◌, inl, inr, ℕ, zero, suc, ◌+◌, ◌-◌, ◌<◌, ◌≤◌, List, [], ◌∷◌, ◌++◌, length, take, drop, sym, ◌∙◌, ap, subst, append_assoc, length-append, arith}
 use Rattle.std.proofs.lemmas.Bool.{cases_lt}
 use Rattle.std.proofs.lemmas.List.{append-nil, length-take-le, take-append-drop}
 use Rattle.std.proofs.Math.Seq.{take-append-add, take-append_seam}
@@ -10,7 +10,7 @@ use Rattle.ssap_grammar.specs.Stream.{Placed, Messages, Stream, IsViable, IsPlac
 use Rattle.ssap_grammar.specs.Laws.{IsPart}
 use Rattle.ssap_grammar.proofs.Characters.{NoSpace, spaces_meet, spaces_run, no_spaces}
 use Rattle.ssap_grammar.proofs.Streams.{GoesOn, messages_no_space, stream_goes_on}
-use Rattle.ssap_grammar.proofs.StreamEnds.{nothing_streams, spaces_add, placed, message_add, message_word, spelling_some}
+use Rattle.ssap_grammar.proofs.StreamEnds.{nothing_streams, spaces_add, placed, message_add, message_word, spelling_some, longer_solid}
 use Rattle.ssap_grammar.proofs.StreamParts.{part_whole, part_viable}
 use Rattle.ssap_machine.specs.Machine.{IsMessage}
 use Rattle.ssap_machine.specs.declared.symbol.Symbol.TheVariants.{Message}
@@ -97,19 +97,15 @@ next_message whole front messages others x y solid some = go g.tail g.reads
     go [] none = let n = ap length (same ∙ none) in absurd (omega (arith, n, some))
     go (p ∷ tail) z = let word = message_word p.envelope g.next z.behind z.reads in (word.0, z.behind, (p.envelope, word.2), same ∙ word.1)
 
--- a front of bytes that begin with no white space does neither, and nor do longer bytes
+-- a front of bytes that begin with no white space does neither
 front_solid : (front back : List ℕ) → NoSpace (front ++ back) → NoSpace front
 front_solid [] back h = tt
 front_solid (c ∷ front) back h = h
 
-longer_solid : (bytes more : List ℕ) → 0 < length bytes → NoSpace bytes → NoSpace (bytes ++ more)
-longer_solid [] more some h = absurd (omega arith)
-longer_solid (c ∷ bytes) more some h = h
-
 -- behind a stream, bytes that lead to no message are in no stream
 dead_viable : (whole tail : List ℕ) (messages : List Placed) → Stream whole messages → NoSpace tail → 0 < length tail → IsDead tail → ¬ (IsViable (whole ++ tail))
 dead_viable whole tail messages x solid some dead v =
-    let m = next_message whole (tail ++ v.0) messages v.1 x (subst (λ b. Stream b v.1) (append_assoc whole tail v.0) v.2) (longer_solid tail v.0 some solid)
+    let m = next_message whole (tail ++ v.0) messages v.1 x (subst (λ b. Stream b v.1) (append_assoc whole tail v.0) v.2) (longer_solid tail v.0 solid some)
     (omega (arith, some, length-append tail v.0)) in
     dead m.0 v.0 m.1 m.2 m.3
 

@@ -108,7 +108,7 @@ inside_solid bytes start i = go (drop start bytes) refl
     )
 
 -- bytes that begin with none of white space do so with more behind them
-longer_solid : (bytes more : List ℕ) → NoSpace bytes → 0 < length bytes → NoSpace (bytes ++ more)
+pub longer_solid : (bytes more : List ℕ) → NoSpace bytes → 0 < length bytes → NoSpace (bytes ++ more)
 longer_solid [] more h n = absurd (omega arith)
 longer_solid (b ∷ bytes) more h n = h
 

@@ -2,8 +2,7 @@
 use Rattle.std.proofs.Common.{◌≡◌, ◌⊎◌, inl, inr, ℕ, zero, suc, ◌<◌, Bool, true, false, List, [], ◌∷◌, ◌++◌, length, refl, sym, ◌∙◌, ap, subst, append_assoc, length-append, arith}
 use Rattle.std.specs.Prelude.{encode_utf8, ◌≢◌}
 use Rattle.std.specs.List.{AllByRecursion}
-use Rattle.std.proofs.lemmas.Bool.{cases_lt, both_ways}
-use Rattle.std.proofs.lemmas.List.{append-nil}
+use Rattle.std.proofs.lemmas.Bool.{both_ways}
 use Rattle.m3_terms.specs.Text.{is_allowed, IsAllowed}
 use Rattle.m3_terms.proofs.Starts.{Start, Found, Half, Stuck, start_map, start_never, start_either, number_same, start_word, start_below}
 use Rattle.ssap_grammar.specs.Characters.{is_white, IsWhite}
