@@ -2,11 +2,11 @@
 use Rattle.std.proofs.Common.{◌≡◌, ◌⊎◌, inl, inr, ℕ, zero, suc, ◌+◌, ◌-◌, ◌<◌, ◌≤◌, List, [], ◌∷◌, ◌++◌, length, take, drop, sym, ◌∙◌, ap, subst, append_assoc, length-append, arith}
 use Rattle.std.proofs.lemmas.Bool.{cases_lt}
 use Rattle.std.proofs.lemmas.List.{append-nil, length-take-le, take-append-drop}
-use Rattle.std.proofs.Math.Seq.{take-append-add, take-append_seam}
+use Rattle.std.proofs.Math.Seq.{take-append-add, take-append_seam, take-length}
 use Rattle.ssap_items.specs.declared.envelope.Envelope.{Envelope}
 use Rattle.ssap_grammar.specs.Characters.{Spaces}
 use Rattle.ssap_grammar.specs.Message.{Spells}
-use Rattle.ssap_grammar.specs.Stream.{Placed, Messages, Stream, IsViable, IsPlace, IsWholeOf, IsWhole, AreMessages}
+use Rattle.ssap_grammar.specs.Stream.{Placed, Messages, Stream, IsViable, IsPlace, IsWholeOf, IsWhole, AreMessages, IsInside}
 use Rattle.ssap_grammar.specs.Laws.{IsPart}
 use Rattle.ssap_grammar.proofs.Characters.{NoSpace, spaces_meet, spaces_run, no_spaces}
 use Rattle.ssap_grammar.proofs.Streams.{GoesOn, messages_no_space, stream_goes_on}
@@ -151,7 +151,29 @@ wholes_exist bytes = let p = parted bytes in (length p.whole, (p.messages, parte
 pub messages_exist : (bytes : List ℕ) → (messages : List Placed) × AreMessages bytes messages
 messages_exist bytes = let p = parted bytes in (p.messages, (length p.whole, parted_whole bytes p))
 
--- they are viable or not
+-- viable bytes of which the whole is not all end inside a message
+pub ends_exist : (bytes : List ℕ) → IsViable bytes → ((messages : List Placed) × Stream bytes messages) ⊎ ((start : ℕ) × IsInside bytes start)
+ends_exist bytes viable = go (wholes_exist bytes)
+  where
+    go : ((whole : ℕ) × IsWhole bytes whole) → ((messages : List Placed) × Stream bytes messages) ⊎ ((start : ℕ) × IsInside bytes start)
+    go (start, (messages, whole)) = elim (cases_lt start (length bytes)) [
+      | inl short ↦ inr (
+        start,
+        record {
+          viable = viable;
+          unfinished = λ others x.
+              let most = whole.longest (length bytes) others (omega arith) (subst (λ b. Stream b others) (sym (take-length bytes)) x) in
+              absurd (omega (arith, most, short));
+          whole = (messages, whole);
+        },
+      )
+      | inr all ↦
+          let within = whole.within in
+          let same : start ≡ length bytes = omega (arith, within, all) in
+          inl (messages, subst (λ b. Stream b messages) (ap (λ n. take n bytes) same ∙ take-length bytes) whole.stream)
+    ]
+
+-- all bytes are viable or not
 pub viability_is_decided : (bytes : List ℕ) → IsViable bytes ⊎ (IsViable bytes → ⊥)
 viability_is_decided bytes = go (parted bytes)
   where

@@ -2,7 +2,7 @@
 use Rattle.std.specs.Prelude.{◌⊎◌, ℕ, List}
 use Rattle.ssap_items.specs.declared.envelope.Envelope.{Envelope}
 use Rattle.ssap_grammar.specs.Message.{Spells}
-use Rattle.ssap_grammar.specs.Stream.{Placed, IsViable, IsPlace, IsWhole, AreMessages}
+use Rattle.ssap_grammar.specs.Stream.{Placed, Stream, IsViable, IsPlace, IsWhole, AreMessages, IsInside}
 use Rattle.ssap_machine.specs.Machine.{IsMessage}
 
 -- what spells an envelope the machine accepts as a message
@@ -28,3 +28,7 @@ MessagesExist = (bytes : List ℕ) → (messages : List Placed) × AreMessages b
 -- and a longest front that is viable
 abbrev pub PlacesExist : Type 0
 PlacesExist = (bytes : List ℕ) → (place : ℕ) × IsPlace bytes place
+
+-- viable bytes are a stream or end inside a message
+abbrev pub EndsExist : Type 0
+EndsExist = (bytes : List ℕ) → IsViable bytes → ((messages : List Placed) × Stream bytes messages) ⊎ ((start : ℕ) × IsInside bytes start)
