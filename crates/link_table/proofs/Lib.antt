@@ -1,0 +1,4 @@
+pub mod Pending
+pub mod SlotLemmas
+pub mod LinkLemmas
+pub mod TableLemmas

@@ -1,0 +1,3 @@
+pub mod Links
+pub mod Limits
+pub mod Table

@@ -1,0 +1,171 @@
+ghost use Rattle.std.specs.Prelude.{◌≡◌, [], None, OnErr, IfOk, length};
+ghost use Rattle.std.specs.Option.{option_map};
+ghost use Rattle.slab.specs.Slab.{get, HasRoomFor};
+ghost use Rattle.link_table.specs.Links.{changed, sent, ended, lost, taken, state_of, pending_of, counted, oldest, Opens};
+ghost use Rattle.link_table.specs.Table.{slot_of, TakesOut, PutsBack};
+
+use crate::entry::Entry;
+use crate::{LinkState, Message};
+use m3_terms::{Bytes, NoMemory};
+use slab::Slab;
+use std::alloc::Global;
+use std::marker::Model;
+
+/// The most links that may count, which are those that are open or on which a message waits.
+pub const LINK_LIMIT: usize = 256;
+
+/// The most bytes that may wait on a link.
+pub const PENDING_LIMIT: u64 = 8_388_608;
+
+/// The links of a space. Links are numbered from 1 in the order in which they open, and no number is used again.
+#[derive(Drop)]
+pub struct Links {
+    // The links that count. A link that is gone has no slot, so it takes no memory.
+    slots: Slab<Entry>,
+    opened: u32,
+    alloc: Global,
+}
+
+impl Model for Links {
+    ghost use Rattle.std.specs.Prelude.{List};
+    ghost use Rattle.link_table.specs.Links.{Link};
+
+    ghost Value = { List Link };
+
+    ghost use Rattle.link_table.specs.Table.{links_to, IsTable};
+
+    ghost view = { λ l. links_to l.slots.slots l.opened };
+
+    ghost invariant = { λ l. IsTable l.slots l.opened };
+}
+
+impl Links {
+    /// No links. It takes no memory.
+    pub fn new(alloc: Global) -> Links
+        ensures { result ≡ [] }
+    {
+        Links {
+            slots: Slab::new(alloc),
+            opened: 0,
+            alloc,
+        }
+    }
+
+    /// Opens the next link and gives its number, or `None` where no link may open.
+    pub fn open(&mut self) -> Result<Option<u32>, NoMemory>
+        ensures ok { IfOk result (λ number. Opens self.old number self.new) }
+        ensures err { OnErr result (self.new ≡ self.old) }
+    {
+        if self.slots.len() >= LINK_LIMIT || self.opened == u32::MAX {
+            return Ok(None);
+        }
+        self.slots.reserve(1)?;
+        let number = self.opened + 1;
+        self.slots.insert_reserved(Entry::new(self.alloc, number));
+        self.opened = number;
+        Ok(Some(number))
+    }
+
+    /// How many links count, which is at most `LINK_LIMIT`.
+    pub fn counted(&self) -> u32
+        ensures { result ≡ counted self.now }
+    {
+        self.slots.len() as u32
+    }
+
+    /// The state of a link.
+    pub fn state(&self, number: u32) -> LinkState
+        ensures { result ≡ state_of self.now number }
+    {
+        match find(&self.slots, number) {
+            Some((_, entry)) => entry.state,
+            None if number == 0 || number > self.opened => LinkState::Never,
+            None => LinkState::Gone,
+        }
+    }
+
+    /// How many messages wait on a link.
+    pub fn waiting(&self, number: u32) -> usize
+        ensures { result ≡ length (pending_of self.now number) }
+    {
+        match find(&self.slots, number) {
+            Some((_, entry)) => entry.pending.len(),
+            None => 0,
+        }
+    }
+
+    /// Puts a message behind those that wait on a link, if the link is open. Where too much would wait the message is
+    /// dropped, and the link is overrun. It takes no memory.
+    pub fn send(&mut self, number: u32, message: Message)
+        ensures { self.new ≡ changed (sent message) self.old number }
+    {
+        if let Some(mut entry) = take_out(&mut self.slots, number) {
+            entry.send(message);
+            put_back(&mut self.slots, entry);
+        }
+    }
+
+    /// Ends the input of a link that is open. It takes no memory.
+    pub fn end(&mut self, number: u32)
+        ensures { self.new ≡ changed ended self.old number }
+    {
+        if let Some(mut entry) = take_out(&mut self.slots, number) {
+            entry.end();
+            put_back(&mut self.slots, entry);
+        }
+    }
+
+    /// Loses a link: it isn't open any more, and what waits on it is dropped. It takes no memory.
+    pub fn lose(&mut self, number: u32)
+        ensures { self.new ≡ changed lost self.old number }
+    {
+        if let Some(mut entry) = take_out(&mut self.slots, number) {
+            entry.lose();
+            put_back(&mut self.slots, entry);
+        }
+    }
+
+    /// Takes the message that waits longest on a link. It takes no memory.
+    pub fn take(&mut self, number: u32) -> Option<Bytes>
+        ensures message { result ≡ oldest (pending_of self.old number) }
+        ensures rest { self.new ≡ changed taken self.old number }
+    {
+        let mut entry = take_out(&mut self.slots, number)?;
+        let message = entry.take();
+        put_back(&mut self.slots, entry);
+        message
+    }
+}
+
+// The link of a number that counts, with its key.
+fn find(slots: &Slab<Entry>, number: u32) -> Option<(usize, &Entry)>
+    ensures { option_map (λ slot. (slot.0, slot.1.now)) result ≡ slot_of slots.now.slots number }
+{
+    for (key, entry) in slots.iter() {
+        if entry.number == number {
+            return Some((key, entry));
+        }
+    }
+    None
+}
+
+// Takes out the link of a number, if it counts.
+fn take_out(slots: &mut Slab<Entry>, number: u32) -> Option<Entry>
+    ensures { TakesOut slots.old number result slots.new }
+{
+    match find(slots, number) {
+        Some((key, _)) => Some(slots.remove(key)),
+        None => None,
+    }
+}
+
+// Puts a link back where one was taken out, if it still counts. It takes no memory.
+fn put_back(slots: &mut Slab<Entry>, entry: Entry)
+    requires room { HasRoomFor slots.old 1 }
+    requires vacant { get slots.old slots.old.vacant_key ≡ None }
+    ensures { PutsBack slots.old entry slots.new }
+{
+    if entry.counts() {
+        slots.insert_reserved(entry);
+    }
+}
