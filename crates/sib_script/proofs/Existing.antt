@@ -1,11 +1,11 @@
 -- All bytes split into entries and a rest, and begin a script or not.
-use Rattle.std.proofs.Common.{◌≡◌, ◌⊎◌, inl, inr, ℕ, zero, suc, ◌+◌, ◌<◌, ◌^◌, List, [], ◌∷◌, ◌++◌, length, replicate, refl, sym, ◌∙◌, ap, subst, append_assoc, length-append, arith}
+use Rattle.std.proofs.Common.{◌≡◌, ◌⊎◌, inl, inr, ℕ, zero, suc, ◌+◌, ◌<◌, ◌≤◌, ◌^◌, List, [], ◌∷◌, ◌++◌, length, take, replicate, refl, sym, ◌∙◌, ap, subst, append_assoc, length-append, arith}
 use Rattle.std.proofs.lemmas.List.{append-nil, length-replicate}
 use Rattle.std.proofs.lemmas.Bool.{cases_lt}
 use Rattle.std.specs.Fmt.{decimal}
 use Rattle.m3_terms.proofs.Lists.{tails_same}
 use Rattle.m3_terms.proofs.Starts.{Start, Found, Half, Stuck, start_map, start_never, start_either, start_word, start_below, start_then}
-use Rattle.sib_script.specs.Script.{entry_spelling, script_spelling, IsLink, IsEntry, AreEntries, BeginsScript, Splits}
+use Rattle.sib_script.specs.Script.{entry_spelling, script_spelling, IsLink, IsEntry, AreEntries, BeginsScript, Splits, IsPlace}
 use Rattle.sib_script.specs.declared.entry.TheConstants.{PIECE_LIMIT}
 use Rattle.sib_script.specs.declared.entry.Entry.{Entry}
 use Rattle.sib_script.specs.declared.entry.Entry.TheVariants.{NewLink, Bytes, End}
@@ -220,3 +220,22 @@ beginning_is_decided bytes = go (parted bytes)
       | inl left ↦ inl (left_begins bytes p.entries p.rest p.allowed p.spelled left)
       | inr dead ↦ inr (dead_begins bytes p.entries p.rest p.allowed p.spelled dead)
     ]
+
+-- going down from a length that no longer front passes, the first front that begins a script is the longest
+place_below : (bytes : List ℕ) (limit : ℕ) → limit ≤ length bytes
+    → ((count : ℕ) → count ≤ length bytes → BeginsScript (take count bytes) → count ≤ limit) → (place : ℕ) × IsPlace bytes place
+place_below bytes zero within most = (0, record { within = within; begins = ([], [], record { allowed = tt; spelled = refl }); longest = most })
+place_below bytes (suc limit) within most = elim (beginning_is_decided (take (suc limit) bytes)) [
+  | inl begins ↦ (suc limit, record { within = within; begins = begins; longest = most })
+  | inr none ↦ place_below bytes limit (omega (arith, within)) (λ count inside h. elim (cases_lt limit count) [
+    | inl past ↦
+        let low = most count inside h in
+        let same : count ≡ suc limit = omega (arith, low, past) in
+        absurd (none (subst (λ n. BeginsScript (take n bytes)) same h))
+    | inr short ↦ short
+  ])
+]
+
+-- all bytes have a place
+pub places_exist : (bytes : List ℕ) → (place : ℕ) × IsPlace bytes place
+places_exist bytes = place_below bytes (length bytes) (omega arith) (λ count within h. within)

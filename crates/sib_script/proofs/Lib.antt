@@ -3,3 +3,4 @@ pub mod Counts
 pub mod Steps
 pub mod Reading
 pub mod Existing
+pub mod Places

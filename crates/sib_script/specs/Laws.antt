@@ -1,6 +1,6 @@
 -- What holds of the format of a script.
 use Rattle.std.specs.Prelude.{◌≡◌, ◌⊎◌, ℕ, ◌<◌, List, [], ◌∷◌, ◌++◌, length}
-use Rattle.sib_script.specs.Script.{entry_spelling, script_spelling, IsEntry, AreEntries, IsScript, BeginsScript, Splits}
+use Rattle.sib_script.specs.Script.{entry_spelling, script_spelling, IsEntry, AreEntries, IsScript, BeginsScript, Splits, IsPlace}
 use Rattle.sib_script.specs.Reading.{IsPart, IsNoPart}
 use Rattle.sib_script.specs.declared.entry.Entry.{Entry}
 
@@ -55,3 +55,11 @@ SplitsExist = (bytes : List ℕ) → (entries : List Entry) × (rest : List ℕ)
 -- some script begins with the bytes or none does
 abbrev pub BeginningIsDecided : Type 0
 BeginningIsDecided = (bytes : List ℕ) → BeginsScript bytes ⊎ (BeginsScript bytes → ⊥)
+
+-- at most one place is the length of the longest front of the bytes that begins some script
+abbrev pub PlacesOnce : Type 0
+PlacesOnce = (bytes : List ℕ) (place other : ℕ) → IsPlace bytes place → IsPlace bytes other → place ≡ other
+
+-- all bytes have such a place
+abbrev pub PlacesExist : Type 0
+PlacesExist = (bytes : List ℕ) → (place : ℕ) × IsPlace bytes place

@@ -1,5 +1,5 @@
 -- The format of a script: a list of entries, each with one spelling.
-use Rattle.std.specs.Prelude.{◌≡◌, ◌≢◌, ℕ, ◌<◌, ◌≤◌, ◌^◌, List, [], ◌∷◌, ◌++◌, flat_map, length, codes, ⊤, refl}
+use Rattle.std.specs.Prelude.{◌≡◌, ◌≢◌, ℕ, ◌<◌, ◌≤◌, ◌^◌, List, [], ◌∷◌, ◌++◌, flat_map, length, take, codes, ⊤, refl}
 use Rattle.std.specs.List.{AllByRecursion}
 use Rattle.std.specs.Fmt.{decimal, digits}
 use Rattle.sib_script.specs.declared.entry.TheConstants.{PIECE_LIMIT}
@@ -62,3 +62,9 @@ pub record Splits (bytes : List ℕ) (entries : List Entry) (rest : List ℕ) : 
   pub allowed : AreEntries entries
   pub spelled : bytes ≡ script_spelling entries ++ rest
   pub partial : (entry : Entry) (more : List ℕ) → IsEntry entry → rest ≢ entry_spelling entry ++ more
+
+-- place is the length of the longest front of the bytes that begins some script
+pub record IsPlace (bytes : List ℕ) (place : ℕ) : Type 0 where
+  pub within : place ≤ length bytes
+  pub begins : BeginsScript (take place bytes)
+  pub longest : (count : ℕ) → count ≤ length bytes → BeginsScript (take count bytes) → count ≤ place

@@ -1,12 +1,13 @@
 //! Laws of the format of scripts. Each function does nothing: its contract is the law.
 
-ghost use Rattle.sib_script.specs.Laws.{EntriesAreTold, SplitsOnce, SplitsGrow, ScriptsSplit, RestIsNoScript, PartsSplit, DeadEnds, EntriesGrow, SplitsExist, BeginningIsDecided};
+ghost use Rattle.sib_script.specs.Laws.{EntriesAreTold, SplitsOnce, SplitsGrow, ScriptsSplit, RestIsNoScript, PartsSplit, DeadEnds, EntriesGrow, PlacesOnce, SplitsExist, BeginningIsDecided, PlacesExist};
 
 /// Bytes are read as entries in one way, and what was read stays as more bytes follow.
 pub fn one_reading()
     ensures entries { EntriesAreTold }
     ensures once { SplitsOnce }
     ensures grow { SplitsGrow }
+    ensures place { PlacesOnce }
 {}
 
 /// A script is read whole: nothing is left exactly of scripts.
@@ -32,4 +33,5 @@ pub fn entries_grow()
 pub fn splits_exist()
     ensures splits { SplitsExist }
     ensures begins { BeginningIsDecided }
+    ensures places { PlacesExist }
 {}

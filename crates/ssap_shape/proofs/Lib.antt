@@ -1,6 +1,6 @@
 mod Plain
 mod Sent
 mod Found
-mod Onces
+pub mod Onces
 mod ExampleShapes
-mod Somes
+pub mod Somes
