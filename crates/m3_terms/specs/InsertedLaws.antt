@@ -116,21 +116,21 @@ module _ {K : Type 0} {R : K → K → Ordering} (o : IsTotalOrder R) where
 
 module _ {X : Type 0} where
   -- what is in a list with a head is the head or in the rest
-  cons_cases : (x : X) (xs : List X) (q : X) → Contains (x ∷ xs) q → (x ≡ q) ⊎ Contains xs q
+  pub cons_cases : (x : X) (xs : List X) (q : X) → Contains (x ∷ xs) q → (x ≡ q) ⊎ Contains xs q
   cons_cases x xs q c = ⊎_elim
       (λ head. ⊎_elim (λ none. let below : none.0 < 0 = none.1 in absurd (omega arith)) inl (Contains-push_cases [] x q head))
       inr (Contains-append_cases (x ∷ []) xs q c)
 
   -- the head is in the list
-  head_in : (x : X) (xs : List X) → Contains (x ∷ xs) x
+  pub head_in : (x : X) (xs : List X) → Contains (x ∷ xs) x
   head_in x xs = Contains-append_left (x ∷ []) xs x (Contains-push [] x)
 
   -- what is in the rest is in the list
-  tail_in : (x : X) (xs : List X) (q : X) → Contains xs q → Contains (x ∷ xs) q
+  pub tail_in : (x : X) (xs : List X) (q : X) → Contains xs q → Contains (x ∷ xs) q
   tail_in x xs q c = Contains-append_right (x ∷ []) xs q c
 
   -- what a test keeps was there
-  was_there : (test : X → Bool) (xs : List X) (q : X) → Contains (filter test xs) q → Contains xs q
+  pub was_there : (test : X → Bool) (xs : List X) (q : X) → Contains (filter test xs) q → Contains xs q
   was_there test xs q c = All-contains (Contains xs) (filter test xs) q (All-filter test (Contains xs) xs (All-contains_itself xs)) c
 
   -- a head that passes the test is kept
@@ -145,7 +145,7 @@ module _ {X : Type 0} where
   rest_kept false x ys q c = c
 
   -- what is there and passes the test is kept
-  is_kept : (test : X → Bool) (xs : List X) (q : X) → test q ≡ true → Contains xs q → Contains (filter test xs) q
+  pub is_kept : (test : X → Bool) (xs : List X) (q : X) → test q ≡ true → Contains xs q → Contains (filter test xs) q
   is_kept test [] q h c = let below : c.0 < 0 = c.1 in absurd (omega arith)
   is_kept test (x ∷ xs) q h c = ⊎_elim
       (λ head. head_kept test x xs q head h)

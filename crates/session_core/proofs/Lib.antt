@@ -1,3 +1,10 @@
-pub mod Insertion
-pub mod KeptOrder
-pub mod Plain
+pub mod Sets
+pub mod Graphs
+pub mod Changes
+pub mod Told
+pub mod Decided
+pub mod Members
+pub mod Spelled
+pub mod Passed
+pub mod Growing
+pub mod Sending

@@ -1,2 +1,10 @@
 pub mod Space
-pub mod Plain
+pub mod Fresh
+pub mod Requests
+pub mod Rings
+pub mod Steps
+pub mod Ranks
+pub mod Kept
+pub mod Runs
+pub mod Laws
+pub mod Examples

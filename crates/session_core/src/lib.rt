@@ -1,13 +1,25 @@
-//! The space: who joined, and the facts that are shared.
+//! The space: who joined, the links, and the facts that are shared.
 #![tactic(auto)]
 
+mod call;
 mod confirm;
+mod graph;
+mod insert;
+mod join;
 mod laws;
-mod request;
+mod leave;
+mod ranks;
+mod ring;
 mod space;
+mod store;
+
+pub use call::{Call, Reply};
+pub use laws::{messages_stay_in_order, runs_stay_in_order, updates_make_the_graph};
+pub use link_table::LinkState;
+pub use ring::Ring;
+pub use space::{Core, NODE_LIMIT, TRIPLE_LIMIT};
+
 #[cfg(test)]
 mod tests;
-
-pub use laws::graph_stays_in_order;
-pub use request::{FirstAsk, FirstRequest};
-pub use space::Core;
+#[cfg(test)]
+mod vectors;

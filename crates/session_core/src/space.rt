@@ -1,117 +1,126 @@
-ghost use Rattle.std.specs.Prelude.{◌≡◌, [], length, IfOk, OnOk, OnErr};
-ghost use Rattle.ssap_items.specs.Canon.{canonical};
-ghost use Rattle.session_core.specs.Space.{empty_space, after, after_ask, with_node, with_triple, is_granted as grants, confirm_of};
+ghost use Rattle.std.specs.Prelude.{◌≡◌, ◌<◌, ◌^◌, ◌↔◌, IsTrue, IsOk, length, IfOk, OnOk, OnErr, Contains};
+ghost use Rattle.link_table.specs.Links.{state_of, pending_of};
+ghost use Rattle.session_core.specs.Space.{empty_space};
+ghost use Rattle.session_core.specs.Steps.{step, advanced, live_subscriptions, IsLean};
 
-use crate::confirm::confirm_envelope;
-use crate::{FirstAsk, FirstRequest};
-use m3_terms::{Bytes, NoMemory, Text, Triple};
+use crate::store::Store;
+use crate::{Call, Reply};
+use link_table::LinkState;
+use m3_terms::{NoMemory, Steps, Text, Triple};
 use std::alloc::Global;
-use std::collections::BTreeSet;
 use std::marker::Model;
+use std::sync::ledger::Ledger;
+use std::thread::Threads;
 
-/// A space: its name, the nodes that joined, and the graph of the facts that they share.
+/// The most nodes that may be joined.
+pub const NODE_LIMIT: usize = 4096;
+
+/// The most triples that the graph may have.
+pub const TRIPLE_LIMIT: usize = 262_144;
+
+/// A space, which does one call at a time.
 #[derive(Drop)]
 pub struct Core {
-    name: Text,
-    joined: BTreeSet<Text>,
-    graph: BTreeSet<Triple>,
-    updates: u64,
+    store: Store,
+    count: u64,
 }
 
 impl Model for Core {
-    ghost use Rattle.session_core.specs.Space.{Space, IsInOrder};
+    ghost use Rattle.std.specs.Prelude.{◌≤◌};
+    ghost use Rattle.session_core.specs.Space.{State};
 
-    ghost Value = { Space };
+    ghost Value = { State };
 
-    ghost view = { λ c. record { name = c.name; joined = c.joined.keys; graph = c.graph.keys; updates = c.updates } };
+    ghost view = { λ c. record { space = c.store; count = c.count } };
 
-    ghost invariant = { λ c. IsInOrder (record { name = c.name; joined = c.joined.keys; graph = c.graph.keys; updates = c.updates }) };
+    ghost invariant = { λ c. c.store.updates ≤ c.count };
 }
 
 impl Core {
-    /// A space with this name, in which nobody joined and nothing is known. It takes no memory.
+    /// A space with this name, in which nothing happened. It takes no memory.
     pub fn new(alloc: Global, space: Text) -> Core
-        ensures { result ≡ empty_space space }
+        ensures space { result.space ≡ empty_space space }
+        ensures count { result.count ≡ 0 }
     {
         Core {
-            name: space,
-            joined: BTreeSet::new(alloc),
-            graph: BTreeSet::new(alloc),
-            updates: 0,
+            store: Store::new(alloc, space),
+            count: 0,
         }
     }
 
-    /// Does what the request asks for if its node may have it done, and gives the canonical spelling of its confirm.
-    /// Whatever takes memory but the one insertion comes before it, so an `Err` leaves the space as it was.
-    pub fn first(&mut self, alloc: Global, request: FirstRequest) -> Result<Bytes, NoMemory>
-        requires { request.space_id ≡ self.old.name }
-        ensures confirm { IfOk result (λ bytes. bytes ≡ canonical (confirm_of self.old request)) }
-        ensures space { OnOk result (self.new ≡ after self.old request) }
+    /// Does a call and answers it. Whatever takes memory comes before the first change, so an `Err` leaves all as it was.
+    pub fn step<R: Threads + Sync, L: Ledger>(
+        &mut self,
+        alloc: Global,
+        rt: &R,
+        call: Call,
+        steps: &mut Steps<L>,
+    ) -> Result<Reply, NoMemory>
+        requires { self.old.count < 2 ^ 62 }
+        ensures reply { IfOk result (λ reply. reply ≡ (step self.old.space call).reply) }
+        ensures space { OnOk result (self.new ≡ advanced self.old call) }
         ensures err { OnErr result (self.new ≡ self.old) }
+        ensures lean { IsLean call → IsOk result }
+        ensures cost { steps.new ≡ steps.old }
     {
-        let granted = self.is_granted(&request.node_id, &request.ask);
-        let envelope = confirm_envelope(alloc, &request, granted)?;
-        let bytes = ssap_encode::to_bytes(alloc, &envelope)?;
-        if granted {
-            self.apply(request.node_id, request.ask)?;
-        }
-        Ok(bytes)
-    }
-
-    fn is_granted(&self, node: &Text, ask: &FirstAsk) -> bool
-        ensures { result ≡ grants self.now node.now ask.now }
-    {
-        match ask {
-            FirstAsk::Join => true,
-            FirstAsk::Insert(_) => self.joined.contains(node),
-        }
-    }
-
-    fn apply(&mut self, node: Text, ask: FirstAsk) -> Result<(), NoMemory>
-        ensures ok { OnOk result (self.new ≡ after_ask self.old node ask) }
-        ensures err { OnErr result (self.new ≡ self.old) }
-    {
-        match ask {
-            FirstAsk::Join => self.join(node),
-            FirstAsk::Insert(triple) => self.insert(triple),
-        }
-    }
-
-    fn join(&mut self, node: Text) -> Result<(), NoMemory>
-        ensures ok { OnOk result (self.new ≡ with_node self.old node) }
-        ensures err { OnErr result (self.new ≡ self.old) }
-    {
-        self.joined.insert(node)?;
-        Ok(())
-    }
-
-    fn insert(&mut self, triple: Triple) -> Result<(), NoMemory>
-        ensures ok { OnOk result (self.new ≡ with_triple self.old triple) }
-        ensures err { OnErr result (self.new ≡ self.old) }
-    {
-        self.graph.insert(triple)?;
-        self.updates = self.updates.saturating_add(1);
-        Ok(())
+        let reply = self.store.call(alloc, call)?;
+        self.count += 1;
+        Ok(reply)
     }
 
     /// The name of the space.
     pub fn name(&self) -> &Text
-        ensures { result.now ≡ self.now.name }
+        ensures { result.now ≡ self.now.space.name }
     {
-        &self.name
+        &self.store.name
     }
 
-    /// How many updates were accepted. It stands still at the greatest u64.
-    pub fn updates(&self) -> u64
-        ensures { result ≡ self.now.updates }
+    /// How many calls were done.
+    pub fn count(&self) -> u64
+        ensures { result ≡ self.now.count }
     {
-        self.updates
+        self.count
+    }
+
+    /// How many updates were accepted.
+    pub fn updates(&self) -> u64
+        ensures { result ≡ self.now.space.updates }
+    {
+        self.store.updates
     }
 
     /// How many triples the graph has.
     pub fn triples(&self) -> u64
-        ensures { result ≡ length self.now.graph }
+        ensures { result ≡ length self.now.space.graph }
     {
-        self.graph.len() as u64
+        self.store.graph.len() as u64
+    }
+
+    /// How many subscriptions live.
+    pub fn subscriptions(&self) -> u64
+        ensures { result ≡ live_subscriptions self.now.space }
+    {
+        0
+    }
+
+    /// Whether the graph has a triple.
+    pub fn contains(&self, triple: &Triple) -> bool
+        ensures { IsTrue result ↔ Contains self.now.space.graph triple.now }
+    {
+        self.store.graph.contains(triple)
+    }
+
+    /// The state of a link.
+    pub fn link_state(&self, link: u32) -> LinkState
+        ensures { result ≡ state_of self.now.space.links link }
+    {
+        self.store.links.state(link)
+    }
+
+    /// How many messages wait on a link.
+    pub fn waiting(&self, link: u32) -> usize
+        ensures { result ≡ length (pending_of self.now.space.links link) }
+    {
+        self.store.links.waiting(link)
     }
 }

@@ -1,18 +1,21 @@
 -- What a call of the reader does to a replay.
 use Rattle.std.proofs.Common.{◌≡◌, ◌∙◌, ap, sym, refl, subst, arith, ℕ, zero, suc, ◌+◌, ◌<◌, ◌^◌, false, List, [], ◌∷◌, ◌++◌, length, take, drop, Option, Some, None, append_assoc, append-nil, length-append, inl, inr, length-take}
 use Rattle.std.proofs.lemmas.Bool.{false≢true}
-use Rattle.sib_io.proofs.KnownLemmas.{whole_part}
+use Rattle.std.proofs.KnownBytes.{Appends-trans}
+use Rattle.sib_io.specs.Causes.{AppendsPart}
+use Rattle.sib_io.proofs.KnownLemmas.{whole_part, part_after}
 use Rattle.sib_script.specs.declared.entry.Entry.{Entry}
 use Rattle.sib_script.specs.declared.reader.ScriptFault as fault
-use Rattle.sib_script.specs.Script.{entry_spelling, script_spelling}
+use Rattle.sib_script.specs.Script.{entry_spelling, script_spelling, BeginsScript, Splits, IsPlace}
 use Rattle.sib_script.specs.Reading.{Reading, IsNoPart, TakesPiece, FeedsWaiting, Feeds, Refuses}
-use Rattle.sib_script.proofs.ScriptLaws.{entry_filled, part_no_entry, left_splits, stuck_splits, dead_end}
-use Rattle.sib_app.specs.Output.{answers}
-use Rattle.sib_app.specs.Output.{IsOutput}
-use Rattle.sib_app.specs.Session.{Replays, Holds, Fails, Stops, GivesFront, ending_of_fault}
+use Rattle.sib_script.proofs.ScriptLaws.{entry_filled, part_no_entry, left_splits, left_begins, stuck_splits, dead_end}
+use Rattle.sib_script.proofs.Places.{place_dead}
+use Rattle.sib_app.specs.Output.{answers, fault_line, IsOutput}
+use Rattle.sib_app.specs.Session.{Replays, Holds, Fails, Stops, GivesFront, WritesLast}
 use Rattle.sib_app.specs.declared.session.Session.{Session}
 use Rattle.sib_app.specs.declared.ending.Ending.{Ending}
 use Rattle.sib_app.specs.declared.ending.Ending.TheVariants.{Done, BadScript, ReadFault, WriteFault, NoMemory, Spent}
+use Rattle.sib_app.proofs.FaultLemmas.{output_of_dead}
 use Rattle.sib_app.proofs.ReplayLemmas.{front_of_output}
 
 module _ (name : List ℕ) (old given : Option (List ℕ)) (read bytes : List ℕ) (reader mid : Reading) (session : Session) where
@@ -38,12 +41,13 @@ module _ (name : List ℕ) (old given : Option (List ℕ)) (read bytes : List �
         taken = ap (λ r. r.taken) t.0 ∙ ap (λ n. n + length piece) h.taken ∙ sym (length-append read piece);
         told = h.told;
         stands = h.stands;
+        counted = h.counted;
         given = h.given;
       }
 
   -- a call that ended an entry holds it
   pub feeds_entry : (count : ℕ) (entry : Entry) → Replays name old given read reader session → Feeds reader bytes count mid → mid.waiting ≡ Some entry
-      → length read + length bytes < 2 ^ 63 → Holds name old given (read ++ take count bytes) entry (record mid { waiting = None }) session
+      → length read + length bytes < 2 ^ 60 → Holds name old given (read ++ take count bytes) entry (record mid { waiting = None }) session
   feeds_entry count entry h f some small =
       let t = subst (λ w. TakesPiece reader (take count bytes) (drop count bytes) w mid) some (took count h f).1 in
       let piece = take count bytes in
@@ -61,6 +65,7 @@ module _ (name : List ℕ) (old given : Option (List ℕ)) (read bytes : List �
         taken = ap (λ r. r.taken) t.2 ∙ ap (λ n. n + length piece) h.taken ∙ sym (length-append read piece);
         told = h.told;
         stands = h.stands;
+        counted = h.counted;
         given = h.given;
       }
 
@@ -108,27 +113,70 @@ fails_stop name old new faults now read bytes NoMemory f = front_of_more name ol
 fails_stop name old new faults now read bytes Spent f = absurd f
 
 -- a call that was refused stops the replay
-pub refused_stops : (name : List ℕ) (old given : Option (List ℕ)) (faults now : ℕ) (read bytes : List ℕ) (reader mid : Reading) (session : Session) (f : fault.ScriptFault)
-    → Replays name old given read reader session → Refuses reader bytes mid f → Stops name old given faults now (read ++ bytes) (ending_of_fault f)
-refused_stops name old given faults now read bytes reader mid session fault.TheVariants.NoMemory h r =
-    front_of_more name old given read bytes (front_of_replay name old given read bytes reader mid session h)
-refused_stops name old given faults now read [] reader mid session (fault.TheVariants.BadScript place) h r =
-    absurd (elim r.2 as (λ _. ⊥) [ inl s ↦ false≢true (sym h.running ∙ s) | inr s ↦ s.1 ])
-refused_stops name old given faults now read (c ∷ more) reader mid session (fault.TheVariants.BadScript place) h r =
-    let here : IsNoPart (reader.unread ++ c ∷ []) =
-    elim r.2 as (λ _. IsNoPart (reader.unread ++ c ∷ [])) [ inl s ↦ absurd (false≢true (sym h.running ∙ s)) | inr s ↦ s.1 ]
-    in (
-      dead_end read h.entries reader.unread c more h.allowed h.spelled h.part here,
-      reader.unread ++ c ∷ more,
-      omega (arith, length-append reader.unread (c ∷ more)),
-      record {
-        entries = h.entries;
-        events = h.events;
-        splits = stuck_splits read h.entries reader.unread c more h.allowed h.spelled h.part here;
-        taken = h.told;
-        given = h.given;
-      },
-    )
+module _ (name : List ℕ) (old given now : Option (List ℕ)) (faults risen : ℕ) (read : List ℕ) (reader mid : Reading) (session : Session) (ending : Ending)
+    (h : Replays name old given read reader session) where
+  -- where no script goes on with the next byte
+  stuck_stops : (c : ℕ) (more : List ℕ) (place : ℕ) → IsNoPart (reader.unread ++ c ∷ []) → place ≡ reader.taken → WritesLast given now faults risen (fault_line place) BadScript ending
+      → Stops name old now faults risen (read ++ c ∷ more) ending
+  stuck_stops c more place here place_is w = by_ending ending w
+    where
+      dead : ¬ (BeginsScript (read ++ c ∷ more))
+      dead = dead_end read h.entries reader.unread c more h.allowed h.spelled h.part here
+
+      some : 0 < length (reader.unread ++ c ∷ more)
+      some = omega (arith, length-append reader.unread (c ∷ more))
+
+      splits : Splits (read ++ c ∷ more) h.entries (reader.unread ++ c ∷ more)
+      splits = stuck_splits read h.entries reader.unread c more h.allowed h.spelled h.part here
+
+      at : IsPlace (read ++ c ∷ more) place
+      at = subst (IsPlace (read ++ c ∷ more)) (sym (place_is ∙ h.taken))
+          (place_dead read c more (left_begins read h.entries reader.unread h.allowed h.spelled h.part)
+          (λ rest. dead_end read h.entries reader.unread c rest h.allowed h.spelled h.part here))
+
+      by_ending : (e : Ending) → WritesLast given now faults risen (fault_line place) BadScript e → Stops name old now faults risen (read ++ c ∷ more) e
+      by_ending BadScript (same, p) = (
+        dead,
+        reader.unread ++ c ∷ more,
+        record {
+          entries = h.entries;
+          events = h.events;
+          place = place;
+          splits = splits;
+          some = some;
+          at = at;
+          taken = h.told;
+          given = Appends-trans old given now (answers name h.events) (fault_line place) h.given p;
+        },
+      )
+      by_ending WriteFault (rose, p) = (
+        rose,
+        λ others output o. subst (AppendsPart old now)
+            (output_of_dead name (read ++ c ∷ more) (reader.unread ++ c ∷ more) others h.entries h.events place output splits some h.told at dead o)
+            (part_after old given now (answers name h.events) (fault_line place) h.given p),
+      )
+      by_ending NoMemory same = subst (λ n. GivesFront name old n (read ++ c ∷ more)) (sym same)
+          (front_of_more name old given read (c ∷ more) (front_of_replay name old given read (c ∷ more) reader mid session h))
+      by_ending Done (same, p) = absurd (no_end same)
+        where
+          no_end : BadScript ≡ Done → ⊥
+          no_end e = cc
+      by_ending ReadFault w = absurd w
+      by_ending Spent w = absurd w
+
+  pub refused_stops : (bytes : List ℕ) (f : fault.ScriptFault) → Refuses reader bytes mid f
+      → ((place : ℕ) → f ≡ fault.TheVariants.BadScript place → WritesLast given now faults risen (fault_line place) BadScript ending)
+      → (f ≡ fault.TheVariants.NoMemory → (ending ≡ NoMemory) × (now ≡ given)) → Stops name old now faults risen (read ++ bytes) ending
+  refused_stops bytes fault.TheVariants.NoMemory r w m =
+      let (no_room, same) = m refl in
+      subst (Stops name old now faults risen (read ++ bytes)) (sym no_room)
+      (subst (λ n. GivesFront name old n (read ++ bytes)) (sym same) (front_of_more name old given read bytes (front_of_replay name old given read bytes reader mid session h)))
+  refused_stops [] (fault.TheVariants.BadScript place) r w m = absurd (elim r.2 as (λ _. ⊥) [ inl s ↦ false≢true (sym h.running ∙ s) | inr s ↦ s.1 ])
+  refused_stops (c ∷ more) (fault.TheVariants.BadScript place) r w m =
+      let here : IsNoPart (reader.unread ++ c ∷ []) =
+      elim r.2 as (λ _. IsNoPart (reader.unread ++ c ∷ [])) [ inl s ↦ absurd (false≢true (sym h.running ∙ s)) | inr s ↦ s.1 ]
+      in
+      stuck_stops c more place here r.0 (w place refl)
 
 -- where what was given is not told, it does not matter
 pub untold : (name : List ℕ) (old given new : Option (List ℕ)) (read : List ℕ) (reader : Reading) (session : Session) → Replays name old given read reader session
@@ -144,13 +192,14 @@ untold name old given new read reader session h = record {
   taken = h.taken;
   told = h.told;
   stands = h.stands;
+  counted = h.counted;
   given = tt;
 }
 
 -- an entry that the reader ended is held once it was taken out
 pub held_entry : (name : List ℕ) (old given : Option (List ℕ)) (read bytes : List ℕ) (reader mid next : Reading) (session : Session) (count : ℕ) (entry : Entry)
     → Replays name old given read reader session → Feeds reader bytes count mid → mid.waiting ≡ Some entry → next ≡ record mid { waiting = None }
-    → reader.taken + length bytes < 2 ^ 63 → Holds name old given (read ++ take count bytes) entry next session
+    → reader.taken + length bytes < 2 ^ 60 → Holds name old given (read ++ take count bytes) entry next session
 held_entry name old given read bytes reader mid next session count entry h f some is fits =
     subst (λ r. Holds name old given (read ++ take count bytes) entry r session) (sym is)
     (feeds_entry name old given read bytes reader mid session count entry h f some (omega (arith, h.taken)))

@@ -1,8 +1,8 @@
--- What a call of a link's decoder does to what the link heard and asked.
-use Rattle.std.proofs.Common.{◌≡◌, ◌∙◌, ap, sym, refl, subst, arith, inl, inr, ℕ, zero, suc, ◌+◌, ◌<◌, ◌≤◌, true, false, cond, List, [], ◌∷◌, ◌++◌, map, length, take, drop, Option, Some, None, Ok, Err, append_assoc, append-nil, length-append}
+-- What a call of a link's decoder does to what the link heard.
+use Rattle.std.proofs.Common.{◌≡◌, ◌∙◌, ap, sym, refl, subst, arith, inl, inr, ℕ, zero, suc, ◌+◌, ◌<◌, ◌≤◌, Bool, true, false, List, [], ◌∷◌, ◌++◌, length, take, drop, Option, Some, None, Ok, Err, append_assoc, append-nil, length-append}
 use Rattle.std.specs.List.{AllByRecursion}
 use Rattle.std.proofs.lemmas.List.{drop-append-le, take-append-drop}
-use Rattle.ssap_items.specs.Canon.{canonical}
+use Rattle.link_table.specs.Links.{is_open, state_of}
 use Rattle.ssap_grammar.specs.Stream.{Placed, IsViable, IsWhole, IsWholeOf, AreMessages}
 use Rattle.ssap_grammar.specs.Message.{Spells}
 use Rattle.ssap_grammar.specs.Laws.{IsPart}
@@ -10,21 +10,23 @@ use Rattle.ssap_grammar.proofs.Messages.{none_begins}
 use Rattle.ssap_grammar.proofs.Streams.{messages_stay}
 use Rattle.ssap_grammar.proofs.StreamEnds.{nothing_streams}
 use Rattle.ssap_grammar.proofs.StreamParts.{wholes_once, streams_are_whole, part_whole, part_viable}
-use Rattle.ssap_decode.specs.Decoding.{Decoding, fresh, EndsMessage, Reaches, Takes, FeedsWaiting, Feeds}
+use Rattle.ssap_decode.specs.Decoding.{Decoding, fresh, message_limit, EndsMessage, Reaches, Takes, FeedsWaiting, Feeds}
+use Rattle.ssap_decode.specs.Standing.{IsShort}
 use Rattle.ssap_decode.specs.Standing as decoding
-use Rattle.ssap_decode.specs.declared.framed.TheConstants.{MESSAGE_LIMIT}
 use Rattle.ssap_decode.specs.declared.framed.Framed.{Framed}
 use Rattle.ssap_decode.specs.declared.framed.Stop as stop
-use Rattle.session_core.specs.declared.request.FirstAsk.{FirstAsk}
-use Rattle.session_core.specs.declared.request.FirstAsk.TheVariants.{Join, Insert}
-use Rattle.session_core.specs.Space.{Space, after, after_ask, after_all, is_granted, confirm_of}
-use Rattle.session_core.specs.declared.request.FirstRequest.{FirstRequest}
-use Rattle.first_requests.specs.Requests.{TakenAs}
+use Rattle.ssap_shape.specs.declared.request.Arrived.{Arrived}
+use Rattle.ssap_shape.specs.declared.request.Arrived.TheVariants.{NotRequest, Wrong, Request}
+use Rattle.session_core.specs.Space.{Space}
+use Rattle.session_core.specs.Runs.{run_from}
 use Rattle.sib_script.proofs.ScriptLaws.{fronts_same}
-use Rattle.sib_app.specs.Output.{Event, Asks, Stops, IsShort, StopsBehind, AreAsked, message_lines, stop_line}
-use Rattle.sib_app.specs.Session.{Follows, AreRequests, confirms, Hearing, HearsSome, TakesFramed, why_of}
+use Rattle.sib_app.specs.Output.{Event, Arrives, Stops, StopsBehind, GoesOn, AreArrived, space_after, is_open_after, calls_at, answers_after, event_lines, reason_of}
+use Rattle.sib_app.specs.Session.{Follows, IsArrival, AreArrivals, Hearing, HearsSome, TakesFramed, IsDrained, why_of, reason_in, reason_from}
 use Rattle.sib_app.specs.declared.why.Why.{Why}
-use Rattle.sib_app.specs.declared.why.Why.TheVariants.{Form, Syntax, Long}
+use Rattle.sib_app.specs.declared.why.Why.TheVariants.{Syntax, Long}
+use Rattle.sib_app.proofs.LinkLemmas.{none_some, some_same}
+use Rattle.sib_app.proofs.CallLemmas.{end_closes}
+use Rattle.sib_app.proofs.EventLemmas.{space-push, answers-push}
 
 -- one item more of which something holds
 all_push : {A : Type 0} (P : A → Type 0) (xs : List A) (x : A) → AllByRecursion P xs → P x → AllByRecursion P (xs ++ x ∷ [])
@@ -43,35 +45,35 @@ stands_whole d read given s = subst (λ b. IsWholeOf b (length s.whole) s.messag
 stands_messages : (d : Decoding) (read : List ℕ) (given : ℕ) (s : decoding.Stands d read given) → AreMessages read s.messages
 stands_messages d read given s = (length s.whole, stands_whole d read given s)
 
-module _ (d mid new : Decoding) (heard bytes : List ℕ) (asked count : ℕ) (f : Follows d heard asked) (feeds : Feeds d bytes count mid)
+module _ (d mid new : Decoding) (heard bytes : List ℕ) (came count : ℕ) (f : Follows d heard came) (feeds : Feeds d bytes count mid)
     (fed : decoding.FeedStands d bytes (Ok count) mid) where
   -- what the decoder stands for after the call
-  fed_stands : decoding.Stands mid (heard ++ take count bytes) asked
-  fed_stands = fed_on d mid bytes count fed heard asked f.stands
+  fed_stands : decoding.Stands mid (heard ++ take count bytes) came
+  fed_stands = fed_on d mid bytes count fed heard came f.stands
 
   -- what it took
   takes : Takes d (take count bytes) (drop count bytes) mid
   takes = (subst (λ w. FeedsWaiting d w bytes count mid) f.idle feeds.does).1
 
   -- the unread part is no longer than a message may be, and no stop was met
-  fed_short : (length mid.unread ≤ MESSAGE_LIMIT) × (mid.stopped ≡ None)
+  fed_short : (length mid.unread ≤ message_limit) × (mid.stopped ≡ None)
   fed_short = go mid.waiting takes.reaches
     where
-      go : (o : Option Framed) → Reaches d (take count bytes) takes.part (drop count bytes) o mid → (length mid.unread ≤ MESSAGE_LIMIT) × (mid.stopped ≡ None)
+      go : (o : Option Framed) → Reaches d (take count bytes) takes.part (drop count bytes) o mid → (length mid.unread ≤ message_limit) × (mid.stopped ≡ None)
       go None r = (
-        subst (λ l. length l ≤ MESSAGE_LIMIT) (sym (ap (λ (x : Decoding). x.unread) r.is)) r.within,
+        subst (λ l. length l ≤ message_limit) (sym (ap (λ (x : Decoding). x.unread) r.is)) r.within,
         ap (λ (x : Decoding). x.stopped) r.is ∙ f.sound,
       )
       go (Some framed) r = (
-        subst (λ l. length l ≤ MESSAGE_LIMIT) (sym (ap (λ (x : Decoding). x.unread) r.is)) (omega arith),
+        subst (λ l. length l ≤ message_limit) (sym (ap (λ (x : Decoding). x.unread) r.is)) (omega arith),
         ap (λ (x : Decoding). x.stopped) r.is ∙ f.sound,
       )
 
   -- what is behind the whole messages is short
-  fed_rest : (whole : ℕ) → IsWhole (heard ++ take count bytes) whole → length (heard ++ take count bytes) ≤ whole + MESSAGE_LIMIT
+  fed_rest : (whole : ℕ) → IsWhole (heard ++ take count bytes) whole → length (heard ++ take count bytes) ≤ whole + message_limit
   fed_rest whole w =
       let s = fed_stands in
-      let same = wholes_once (heard ++ take count bytes) whole (length s.whole) w (s.messages, stands_whole mid (heard ++ take count bytes) asked s) in
+      let same = wholes_once (heard ++ take count bytes) whole (length s.whole) w (s.messages, stands_whole mid (heard ++ take count bytes) came s) in
       omega (arith, same, fed_short.0, ap length s.split, length-append s.whole mid.unread)
 
   -- some stream goes on from them
@@ -80,14 +82,14 @@ module _ (d mid new : Decoding) (heard bytes : List ℕ) (asked count : ℕ) (f 
 
   -- the messages are those that were given, and others
   fed_grown : (tail : List Placed) × (fed_stands.messages ≡ f.messages ++ tail)
-  fed_grown = messages_stay heard (take count bytes) f.messages fed_stands.messages f.through.are (stands_messages mid (heard ++ take count bytes) asked fed_stands)
+  fed_grown = messages_stay heard (take count bytes) f.messages fed_stands.messages f.through.are (stands_messages mid (heard ++ take count bytes) came fed_stands)
 
   -- a call that ended no message
-  pub follows_on : mid.waiting ≡ None → new ≡ record mid { waiting = None } → decoding.Stands new (heard ++ take count bytes) asked
-      → (g : Follows new (heard ++ take count bytes) asked) × (g.messages ≡ f.messages)
+  pub follows_on : mid.waiting ≡ None → new ≡ record mid { waiting = None } → decoding.Stands new (heard ++ take count bytes) came
+      → (g : Follows new (heard ++ take count bytes) came) × (g.messages ≡ f.messages)
   follows_on none is stands =
       let s = fed_stands in
-      let waits : asked ≡ length s.messages = subst (λ o. decoding.Waits o asked s.messages) none s.waits in
+      let waits : came ≡ length s.messages = subst (λ o. decoding.Waits o came s.messages) none s.waits in
       let same : s.messages ≡ f.messages =
       (fronts_same s.messages f.messages [] fed_grown.0 (sym waits ∙ f.counted) (append-nil s.messages ∙ fed_grown.1)).0
       in (
@@ -99,7 +101,7 @@ module _ (d mid new : Decoding) (heard bytes : List ℕ) (asked count : ℕ) (f 
           counted = f.counted;
           through = record {
             viable = fed_viable;
-            are = subst (AreMessages (heard ++ take count bytes)) same (stands_messages mid (heard ++ take count bytes) asked s);
+            are = subst (AreMessages (heard ++ take count bytes)) same (stands_messages mid (heard ++ take count bytes) came s);
             short = f.through.short;
             rest_short = fed_rest;
           };
@@ -108,12 +110,12 @@ module _ (d mid new : Decoding) (heard bytes : List ℕ) (asked count : ℕ) (f 
       )
 
   -- a call that ended a message
-  pub follows_next : (framed : Framed) → mid.waiting ≡ Some framed → new ≡ record mid { waiting = None } → decoding.Stands new (heard ++ take count bytes) (asked + 1)
-      → (g : Follows new (heard ++ take count bytes) (asked + 1)) × (g.messages ≡ f.messages ++ decoding.placed_of framed ∷ [])
+  pub follows_next : (framed : Framed) → mid.waiting ≡ Some framed → new ≡ record mid { waiting = None } → decoding.Stands new (heard ++ take count bytes) (came + 1)
+      → (g : Follows new (heard ++ take count bytes) (came + 1)) × (g.messages ≡ f.messages ++ decoding.placed_of framed ∷ [])
   follows_next framed some is stands =
       let s = fed_stands in
       let one = decoding.placed_of framed in
-      let waits : decoding.Waits (Some framed) asked s.messages = subst (λ o. decoding.Waits o asked s.messages) some s.waits in
+      let waits : decoding.Waits (Some framed) came s.messages = subst (λ o. decoding.Waits o came s.messages) some s.waits in
       let front : waits.0 ≡ f.messages =
       (fronts_same waits.0 f.messages (one ∷ []) fed_grown.0 (sym waits.2 ∙ f.counted) (sym waits.1 ∙ fed_grown.1)).0
       in
@@ -128,7 +130,7 @@ module _ (d mid new : Decoding) (heard bytes : List ℕ) (asked count : ℕ) (f 
           counted = ap (λ n. n + 1) f.counted ∙ sym (length-append f.messages (one ∷ []));
           through = record {
             viable = fed_viable;
-            are = subst (AreMessages (heard ++ take count bytes)) same (stands_messages mid (heard ++ take count bytes) asked s);
+            are = subst (AreMessages (heard ++ take count bytes)) same (stands_messages mid (heard ++ take count bytes) came s);
             short = all_push IsShort f.messages one f.through.short short;
             rest_short = fed_rest;
           };
@@ -166,59 +168,29 @@ module _ (d mid new : Decoding) (heard bytes : List ℕ) (asked count : ℕ) (f 
               omega (arith, p.2, ap length (none_begins d.unread p.0 framed.envelope p.1 whole p.3))
       go (suc n) more = omega (arith, more)
 
--- the requests of more messages
-requests_push : (name : List ℕ) (l : List Placed) (requests : List FirstRequest) (message : Placed) (request : FirstRequest) → AreRequests name l requests
-    → TakenAs name message.envelope (Some request) → AreRequests name (l ++ message ∷ []) (requests ++ request ∷ [])
-requests_push name [] [] message request h t = (t, tt)
-requests_push name [] (r ∷ requests) message request h t = absurd h
-requests_push name (m ∷ l) [] message request h t = absurd h
-requests_push name (m ∷ l) (r ∷ requests) message request h t = (h.0, requests_push name l requests message request h.1 t)
+-- the events of more messages
+arrivals_push : (name : List ℕ) (before : List Event) (link : ℕ) (l : List Placed) (events : List Event) (message : Placed) (event : Event) → AreArrivals name before link l events
+    → IsArrival name (before ++ events) link message event → AreArrivals name before link (l ++ message ∷ []) (events ++ event ∷ [])
+arrivals_push name before link [] [] message event h t = (subst (λ b. IsArrival name b link message event) (append-nil before) t, tt)
+arrivals_push name before link [] (v ∷ events) message event h t = absurd h
+arrivals_push name before link (m ∷ l) [] message event h t = absurd h
+arrivals_push name before link (m ∷ l) (v ∷ events) message event h t =
+    (h.0, arrivals_push name (before ++ v ∷ []) link l events message event h.1 (subst (λ b. IsArrival name b link message event) (sym (append_assoc before (v ∷ []) events)) t))
 
--- requests, and what comes behind them
-pub asked_after : (name : List ℕ) (link : ℕ) (front rest : List ℕ) (l others : List Placed) (requests : List FirstRequest) (events : List Event) → AreRequests name l requests
-    → AreAsked name link front rest others events → AreAsked name link front rest (l ++ others) (map (Asks link) requests ++ events)
-asked_after name link front rest [] others [] events h a = a
-asked_after name link front rest [] others (r ∷ requests) events h a = absurd h
-asked_after name link front rest (m ∷ l) others [] events h a = absurd h
-asked_after name link front rest (m ∷ l) others (r ∷ requests) events h a =
-    (Some r, h.0, (map (Asks link) requests ++ events, refl, asked_after name link front rest l others requests events h.1 a))
-
--- what is asked leaves the name of the space
-name_after_ask : (space : Space) (node : List ℕ) (ask : FirstAsk) → (after_ask space node ask).name ≡ space.name
-name_after_ask space node Join = refl
-name_after_ask space node (Insert triple) = refl
-
--- a request leaves the name of the space
-name_after : (space : Space) (request : FirstRequest) → (after space request).name ≡ space.name
-name_after space request =
-    elim (is_granted space request.node_id request.ask)
-    as (λ b. (cond b (after_ask space request.node_id request.ask) space).name ≡ space.name)
-    [ true ↦ name_after_ask space request.node_id request.ask | false ↦ refl ]
-
--- requests leave the name of the space
-pub name_after_all : (space : Space) (requests : List FirstRequest) → (after_all space requests).name ≡ space.name
-name_after_all space [] = refl
-name_after_all space (request ∷ requests) = name_after_all (after space request) requests ∙ name_after space request
-
--- one request more
-pub after_all_push : (space : Space) (requests : List FirstRequest) (request : FirstRequest) → after_all space (requests ++ request ∷ []) ≡ after (after_all space requests) request
-after_all_push space [] request = refl
-after_all_push space (first ∷ requests) request = after_all_push (after space first) requests request
-
-confirms_push : (link : ℕ) (space : Space) (requests : List FirstRequest) (request : FirstRequest)
-    → confirms link space (requests ++ request ∷ []) ≡ confirms link space requests ++ message_lines link (canonical (confirm_of (after_all space requests) request))
-confirms_push link space [] request = append-nil (message_lines link (canonical (confirm_of space request)))
-confirms_push link space (first ∷ requests) request =
-    ap (λ l. message_lines link (canonical (confirm_of space first)) ++ l) (confirms_push link (after space first) requests request)
-    ∙ sym (append_assoc (message_lines link (canonical (confirm_of space first))) (confirms link (after space first) requests)
-    (message_lines link (canonical (confirm_of (after_all (after space first) requests) request))))
-
--- what is some is one thing
-pub some_same : {A : Type 0} (a b : A) → ◌≡◌ {A = Option A} (Some a) (Some b) → a ≡ b
-some_same a b e = cc
-
-pub none_some : {A : Type 0} (a : A) → ◌≡◌ {A = Option A} None (Some a) → ⊥
-none_some a e = cc
+-- events of messages, and what comes behind them
+pub arrivals_then : (name : List ℕ) (before : List Event) (link : ℕ) (front rest : List ℕ) (l others : List Placed) (events behind : List Event) → AreArrivals name before link l events
+    → AreArrived name (before ++ events) link front rest others behind → AreArrived name before link front rest (l ++ others) (events ++ behind)
+arrivals_then name before link front rest [] others [] behind h a = subst (λ b. AreArrived name b link front rest others behind) (append-nil before) a
+arrivals_then name before link front rest [] others (v ∷ events) behind h a = absurd h
+arrivals_then name before link front rest (m ∷ l) others [] behind h a = absurd h
+arrivals_then name before link front rest (m ∷ l) others (v ∷ events) behind ((arrived, shape, is, on), more) a =
+    let event : Event = Arrives link m.start arrived in
+    let Others : Event → List Event → Type 0 = λ e. AreArrived name (before ++ e ∷ []) link front rest (l ++ others) in
+    let rest_of = arrivals_then name (before ++ v ∷ []) link front rest l others events behind more (subst (λ b. AreArrived name b link front rest others behind) (sym (append_assoc before (v ∷ []) events)) a) in
+    let goes : GoesOn (is_open_after name (before ++ v ∷ []) link) v (Others v) (v ∷ (events ++ behind)) =
+    subst (λ b. GoesOn b v (Others v) (v ∷ (events ++ behind))) (sym on) (events ++ behind, refl, rest_of)
+    in
+    (arrived, shape, subst (λ e. GoesOn (is_open_after name (before ++ e ∷ []) link) e (Others e) (v ∷ (events ++ behind))) is goes)
 
 -- a decoder's stop stands behind what it took
 stop_stands : (d : Decoding) (heard bytes : List ℕ) (at : stop.Stop) (why : Why) → d.stopped ≡ None → decoding.IsMet d heard bytes at → why_of at ≡ Some why
@@ -234,106 +206,133 @@ stop_stands d heard (byte ∷ rest) (stop.TheVariants.Syntax place) why sound (i
 stop_stands d heard (byte ∷ rest) (stop.TheVariants.TooLong start) why sound (inr s) is =
     subst (λ w. StopsBehind heard (byte ∷ rest) (Some w)) (some_same (Long start) why is) (s.0, s.2, s.1)
 
--- what a link heard and asked, where the count is another's
-pub hearing_of : (link : ℕ) (first : Space) (asked n : ℕ) (heard : List ℕ) (requests : List FirstRequest) (space : Space) (d : Decoding) (lines : List ℕ) → n ≡ asked + length requests
-    → (g : Follows d heard n) → AreRequests first.name (drop asked g.messages) requests → space ≡ after_all first requests → lines ≡ confirms link first requests
-    → Hearing link first asked heard requests space d lines
-hearing_of link first asked n heard requests space d lines e g a does written =
-    subst (λ n. (g : Follows d heard n) → AreRequests first.name (drop asked g.messages) requests → Hearing link first asked heard requests space d lines) (sym e)
-    (λ g a. record { follows = g; are = a; does = does; written = written }) g a
+-- the reason that a message gives is that of its event
+pub reasons_same : (link start : ℕ) (arrived : Arrived) → reason_in (reason_from link start arrived) ≡ reason_of (Arrives link start arrived)
+reasons_same link start NotRequest = refl
+reasons_same link start (Wrong heads status) = refl
+reasons_same link start (Request request) = refl
 
-module _ (link : ℕ) (first : Space) (asked : ℕ) (heard : List ℕ) (requests : List FirstRequest) (space : Space) (d mid new : Decoding) (lines bytes : List ℕ)
-    (h : Hearing link first asked heard requests space d lines) where
-  count_of : ℕ
-  count_of = asked + length requests
+-- what a link heard, where the count is another's
+pub hearing_of : (name : List ℕ) (before : List Event) (link came n : ℕ) (heard : List ℕ) (events : List Event) (space : Space) (d : Decoding) (lines : List ℕ) → n ≡ came + length events
+    → (g : Follows d heard n) → AreArrivals name before link (drop came g.messages) events → space ≡ space_after name (before ++ events) → is_open (state_of space.links link) ≡ true
+    → lines ≡ answers_after name before events → Hearing name before link came heard events space d lines
+hearing_of name before link came n heard events space d lines e g a does on written =
+    subst (λ n. (g : Follows d heard n) → AreArrivals name before link (drop came g.messages) events → Hearing name before link came heard events space d lines) (sym e)
+    (λ g a. record { follows = g; are = a; does = does; runs = on; written = written }) g a
 
-  -- the messages that were asked are among those that were given
-  asked_within : asked ≤ length h.follows.messages
-  asked_within = omega (arith, h.follows.counted)
+module _ (name : List ℕ) (before : List Event) (link came : ℕ) (heard : List ℕ) (events : List Event) (space : Space) (d mid new : Decoding) (lines bytes : List ℕ)
+    (h : Hearing name before link came heard events space d lines) where
+  -- the messages that came before are among those that were given
+  came_within : came ≤ length h.follows.messages
+  came_within = omega (arith, h.follows.counted)
 
-  -- the name stays
-  named : space.name ≡ first.name
-  named = ap (λ (s : Space). s.name) h.does ∙ name_after_all first requests
+  -- one event more
+  pushed : (event : Event) (next : Space) → next ≡ run_from space (calls_at space event) → next ≡ space_after name (before ++ (events ++ event ∷ []))
+  pushed event next does =
+      does ∙ ap (λ s. run_from s (calls_at s event)) h.does ∙ sym (space-push name (before ++ events) event)
+      ∙ ap (space_after name) (append_assoc before events (event ∷ []))
+
+  written : (event : Event) (more : List ℕ) → more ≡ lines ++ event_lines space event → more ≡ answers_after name before (events ++ event ∷ [])
+  written event more is =
+      is ∙ ap (λ l. l ++ event_lines space event) h.written ∙ ap (λ s. answers_after name before events ++ event_lines s event) h.does
+      ∙ sym (answers-push name before events event)
 
   -- the decoder stopped
-  pub hearing_refused : (at : stop.Stop) (why : Why) (after_ : Decoding) (written : List ℕ) → decoding.FeedStands d bytes (Err at) mid → why_of at ≡ Some why → written ≡ lines ++ stop_line link why
-      → HearsSome link first asked heard requests bytes None space after_ written
-  hearing_refused at why after_ written fed is line = (
-    why,
-    h.does,
-    line ∙ ap (λ l. l ++ stop_line link why) h.written,
+  pub hearing_refused : (at : stop.Stop) (why : Why) (after_ : Decoding) (next : Space) (more : List ℕ) → IsDrained space → decoding.FeedStands d bytes (Err at) mid → why_of at ≡ Some why
+      → next ≡ run_from space (calls_at space (Stops link why)) → more ≡ lines ++ event_lines space (Stops link why)
+      → HearsSome name before link came heard events bytes None next after_ more
+  hearing_refused at why after_ next more drained fed is does line = (
+    Stops link why,
     record {
       front = heard;
       rest = bytes;
       split = refl;
       messages = h.follows.messages;
       through = h.follows.through;
-      taken = subst (λ l. AreAsked first.name link heard bytes l (map (Asks link) requests ++ Stops link why ∷ [])) (append-nil (drop asked h.follows.messages))
-          (asked_after first.name link heard bytes (drop asked h.follows.messages) [] requests (Stops link why ∷ []) h.are
-          (Some why, stop_stands d heard bytes at why h.follows.sound (fed heard (asked + length requests) h.follows.stands).1 is, refl));
+      taken = subst (λ l. AreArrived name before link heard bytes l (events ++ Stops link why ∷ [])) (append-nil (drop came h.follows.messages))
+          (arrivals_then name before link heard bytes (drop came h.follows.messages) [] events (Stops link why ∷ []) h.are
+          (Some why, stop_stands d heard bytes at why h.follows.sound (fed heard (came + length events) h.follows.stands).1 is, refl));
     },
+    pushed (Stops link why) next does,
+    ap (λ (s : Space). is_open (state_of s.links link)) does ∙ end_closes space link drained h.runs,
+    written (Stops link why) more line,
   )
 
   module _ (count : ℕ) (feeds : Feeds d bytes count mid) (fed : decoding.FeedStands d bytes (Ok count) mid) (result : Option Framed) (waits : result ≡ mid.waiting)
       (is : new ≡ record mid { waiting = None }) (next : decoding.NextStands mid result new) where
     -- a call that ended no message
-    pub hearing_on : result ≡ None → (more : List FirstRequest) × Hearing link first asked (heard ++ take count bytes) (requests ++ more) space new lines
+    pub hearing_on : result ≡ None → (more : List Event) × Hearing name before link came (heard ++ take count bytes) (events ++ more) space new lines
     hearing_on none =
         let told : decoding.NextStands mid None new = subst (λ o. decoding.NextStands mid o new) none next in
-        let stands = (told (heard ++ take count bytes) (asked + length requests) (fed_on d mid bytes count fed heard (asked + length requests) h.follows.stands)).0 in
-        let (g, same) = follows_on d mid new heard bytes (asked + length requests) count h.follows feeds fed (sym waits ∙ none) is stands in (
+        let stands = (told (heard ++ take count bytes) (came + length events) (fed_on d mid bytes count fed heard (came + length events) h.follows.stands)).0 in
+        let (g, same) = follows_on d mid new heard bytes (came + length events) count h.follows feeds fed (sym waits ∙ none) is stands in (
           [],
-          subst (λ r. Hearing link first asked (heard ++ take count bytes) r space new lines) (sym (append-nil requests)) (record {
+          subst (λ r. Hearing name before link came (heard ++ take count bytes) r space new lines) (sym (append-nil events)) (record {
             follows = g;
-            are = subst (λ l. AreRequests first.name (drop asked l) requests) (sym same) h.are;
+            are = subst (λ l. AreArrivals name before link (drop came l) events) (sym same) h.are;
             does = h.does;
+            runs = h.runs;
             written = h.written;
           }),
         )
 
-    module _ (framed : Framed) (some : result ≡ Some framed) where
+    module _ (framed : Framed) (some : result ≡ Some framed) (done : Space) (more : List ℕ) (on : Bool) (t : TakesFramed link space framed lines on done more) where
       -- a call that ended a message
-      followed : (g : Follows new (heard ++ take count bytes) (asked + length requests + 1)) × (g.messages ≡ h.follows.messages ++ decoding.placed_of framed ∷ [])
+      followed : (g : Follows new (heard ++ take count bytes) (came + length events + 1)) × (g.messages ≡ h.follows.messages ++ decoding.placed_of framed ∷ [])
       followed =
           let told : decoding.NextStands mid (Some framed) new = subst (λ o. decoding.NextStands mid o new) some next in
-          let stands = (told (heard ++ take count bytes) (asked + length requests) (fed_on d mid bytes count fed heard (asked + length requests) h.follows.stands)).0 in
-          follows_next d mid new heard bytes (asked + length requests) count h.follows feeds fed framed (sym waits ∙ some) is stands
+          let stands = (told (heard ++ take count bytes) (came + length events) (fed_on d mid bytes count fed heard (came + length events) h.follows.stands)).0 in
+          follows_next d mid new heard bytes (came + length events) count h.follows feeds fed framed (sym waits ∙ some) is stands
 
-      -- the messages behind those that were asked before, with the one that was ended
-      one_more : drop asked followed.0.messages ≡ drop asked h.follows.messages ++ decoding.placed_of framed ∷ []
-      one_more = ap (drop asked) followed.1 ∙ drop-append-le asked h.follows.messages (decoding.placed_of framed ∷ []) asked_within
+      -- the messages behind those that came before, with the one that was ended
+      one_more : drop came followed.0.messages ≡ drop came h.follows.messages ++ decoding.placed_of framed ∷ []
+      one_more = ap (drop came) followed.1 ∙ drop-append-le came h.follows.messages (decoding.placed_of framed ∷ []) came_within
 
-      -- the message is a request
-      pub hearing_asks : (done : Space) (written : List ℕ) → TakesFramed link space framed lines true done written
-          → (more : List FirstRequest) × Hearing link first asked (heard ++ take count bytes) (requests ++ more) done new written
-      hearing_asks done written (request, taken, does, line) = (
-        request ∷ [],
-        hearing_of link first asked (asked + length requests + 1) (heard ++ take count bytes) (requests ++ request ∷ []) done new written
-            (omega (arith, length-append requests (request ∷ []))) followed.0
-            (subst (λ l. AreRequests first.name l (requests ++ request ∷ [])) (sym one_more)
-            (requests_push first.name (drop asked h.follows.messages) requests (decoding.placed_of framed) request h.are (subst (λ n. TakenAs n framed.envelope (Some request)) named taken)))
-            (does ∙ ap (λ s. after s request) h.does ∙ sym (after_all_push first requests request))
-            (line ∙ ap (λ l. l ++ message_lines link (canonical (confirm_of space request))) h.written
-            ∙ ap (λ s. confirms link first requests ++ message_lines link (canonical (confirm_of s request))) h.does ∙ sym (confirms_push link first requests request)),
+      -- the event
+      event : Event
+      event = Arrives link framed.start t.arrived
+
+      -- the link is open behind it, or not
+      open_then : is_open_after name ((before ++ events) ++ Arrives link framed.start t.arrived ∷ []) link ≡ on
+      open_then =
+          ap (λ b. is_open_after name b link) (append_assoc before events (Arrives link framed.start t.arrived ∷ []))
+          ∙ ap (λ (s : Space). is_open (state_of s.links link)) (sym (pushed (Arrives link framed.start t.arrived) done t.does)) ∙ sym t.on_is
+
+      -- the link goes on
+      pub hearing_arrives : on ≡ true → (others : List Event) × Hearing name before link came (heard ++ take count bytes) (events ++ others) done new more
+      hearing_arrives yes_ = (
+        Arrives link framed.start t.arrived ∷ [],
+        hearing_of name before link came (came + length events + 1) (heard ++ take count bytes) (events ++ Arrives link framed.start t.arrived ∷ []) done new more
+            (omega (arith, length-append events (Arrives link framed.start t.arrived ∷ []))) followed.0
+            (subst (λ l. AreArrivals name before link l (events ++ Arrives link framed.start t.arrived ∷ [])) (sym one_more)
+            (arrivals_push name before link (drop came h.follows.messages) events (decoding.placed_of framed) (Arrives link framed.start t.arrived) h.are
+            (t.arrived, t.shape, refl, open_then ∙ yes_)))
+            (pushed (Arrives link framed.start t.arrived) done t.does) (sym t.on_is ∙ yes_) (written (Arrives link framed.start t.arrived) more t.writes),
       )
 
-      -- the message is none
-      pub hearing_stops : (done : Space) (after_ : Decoding) (written : List ℕ) → TakesFramed link space framed lines false done written
-          → HearsSome link first asked heard requests bytes None done after_ written
-      hearing_stops done after_ written (none, does, line) = (
-        Form framed.start,
-        does ∙ h.does,
-        line ∙ ap (λ l. l ++ stop_line link (Form framed.start)) h.written,
+      -- or it is open no more
+      pub hearing_stops : (after_ : Decoding) → on ≡ false → HearsSome name before link came heard events bytes None done after_ more
+      hearing_stops after_ no_ = (
+        Arrives link framed.start t.arrived,
         record {
           front = heard ++ take count bytes;
           rest = drop count bytes;
           split = ap (λ l. heard ++ l) (sym (take-append-drop count bytes)) ∙ sym (append_assoc heard (take count bytes) (drop count bytes));
           messages = followed.0.messages;
           through = followed.0.through;
-          taken = subst (λ l. AreAsked first.name link (heard ++ take count bytes) (drop count bytes) l (map (Asks link) requests ++ Stops link (Form framed.start) ∷ [])) (sym one_more)
-              (asked_after first.name link (heard ++ take count bytes) (drop count bytes) (drop asked h.follows.messages) (decoding.placed_of framed ∷ []) requests
-              (Stops link (Form framed.start) ∷ []) h.are (None, subst (λ n. TakenAs n framed.envelope None) named none, refl));
+          taken = subst (λ l. AreArrived name before link (heard ++ take count bytes) (drop count bytes) l (events ++ Arrives link framed.start t.arrived ∷ [])) (sym one_more)
+              (arrivals_then name before link (heard ++ take count bytes) (drop count bytes) (drop came h.follows.messages) (decoding.placed_of framed ∷ []) events
+              (Arrives link framed.start t.arrived ∷ []) h.are (
+                t.arrived,
+                t.shape,
+                subst (λ b. GoesOn b (Arrives link framed.start t.arrived)
+                    (AreArrived name ((before ++ events) ++ Arrives link framed.start t.arrived ∷ []) link (heard ++ take count bytes) (drop count bytes) []) (Arrives link framed.start t.arrived ∷ []))
+                    (sym (open_then ∙ no_)) refl,
+              ));
         },
+        pushed (Arrives link framed.start t.arrived) done t.does,
+        sym t.on_is ∙ no_,
+        written (Arrives link framed.start t.arrived) more t.writes,
       )
 
 -- a decoder that has taken nothing

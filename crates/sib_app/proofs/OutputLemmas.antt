@@ -3,16 +3,9 @@ use Rattle.std.proofs.Common.{◌≡◌, ◌∙◌, ap, sym, refl, subst, ℕ, t
 use Rattle.std.specs.Bool.{MatchBool}
 use Rattle.sib_script.specs.declared.entry.Entry.{Entry}
 use Rattle.sib_script.specs.declared.entry.Entry.TheVariants.{NewLink, Bytes, End}
-use Rattle.sib_app.specs.Output.{Event, Hears, Closed, is_open, heard, asked_on, IsHeard, IsEnded, IsTaken, AreTakenAfter, AreTaken, answer, answers_after, answers}
+use Rattle.sib_app.specs.Output.{Event, Hears, Closed, is_open_after, heard, arrived_on, IsHeard, IsEnded, IsTaken, AreTakenAfter, AreTaken, answers_after, answers}
+use Rattle.sib_app.proofs.EventLemmas.{answers_after-append}
 use Rattle.sib_app.proofs.ReadOnce.{heard_once, ended_once}
-
--- the answers to some events, and then those to more
-pub answers_after-append : (name : List ℕ) (before vs ws : List Event) → answers_after name before (vs ++ ws) ≡ answers_after name before vs ++ answers_after name (before ++ vs) ws
-answers_after-append name before [] ws = ap (λ b. answers_after name b ws) (sym (append-nil before))
-answers_after-append name before (v ∷ vs) ws =
-    ap (λ l. answer name before v ++ l) (answers_after-append name (before ++ v ∷ []) vs ws
-    ∙ ap (λ b. answers_after name (before ++ v ∷ []) vs ++ answers_after name b ws) (append_assoc before (v ∷ []) vs))
-    ∙ sym (append_assoc (answer name before v) (answers_after name (before ++ v ∷ []) vs) (answers_after name (before ++ v ∷ vs) ws))
 
 -- the answers to some events more
 pub answers-append : (name : List ℕ) (vs ws : List Event) → answers name (vs ++ ws) ≡ answers name vs ++ answers_after name vs ws
@@ -36,17 +29,17 @@ taken-push name es vs e ws t h = taken_after-push name [] es vs e ws t h
 -- a delivery on an open link is taken as one thing
 delivery_once : (name : List ℕ) (before : List Event) (link : ℕ) (bytes : List ℕ) (v w : List Event) → IsHeard name before link bytes v → IsHeard name before link bytes w → v ≡ w
 delivery_once name before link bytes v w (a, is, p) (b, as_, q) =
-    is ∙ ap (λ l. Hears link bytes ∷ l) (heard_once name link (asked_on before link) (heard before link ++ bytes) a b p q) ∙ sym as_
+    is ∙ ap (λ l. Hears link bytes ∷ l) (heard_once name (before ++ Hears link bytes ∷ []) link (arrived_on before link) (heard before link ++ bytes) a b p q) ∙ sym as_
 
 -- an entry is taken as one thing
 taken_once : (name : List ℕ) (before : List Event) (e : Entry) (v w : List Event) → IsTaken name before e v → IsTaken name before e w → v ≡ w
 taken_once name before NewLink v w s t = s ∙ sym t
 taken_once name before (Bytes link bytes) v w s t =
-    elim (is_open before link)
+    elim (is_open_after name before link)
     as (λ b. MatchBool b (IsHeard name before link bytes v) (v ≡ Closed link ∷ []) → MatchBool b (IsHeard name before link bytes w) (w ≡ Closed link ∷ []) → v ≡ w)
     [ true ↦ λ x y. delivery_once name before link bytes v w x y | false ↦ λ x y. x ∙ sym y ] s t
 taken_once name before (End link) v w s t =
-    elim (is_open before link)
+    elim (is_open_after name before link)
     as (λ b. MatchBool b (IsEnded before link v) (v ≡ Closed link ∷ []) → MatchBool b (IsEnded before link w) (w ≡ Closed link ∷ []) → v ≡ w)
     [ true ↦ λ x y. ended_once before link v w x y | false ↦ λ x y. x ∙ sym y ] s t
 

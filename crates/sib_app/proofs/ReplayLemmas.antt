@@ -1,9 +1,8 @@
 -- How a replay goes on from one entry to the next, and what stands where it stops.
-use Rattle.std.proofs.Common.{◌≡◌, ◌∙◌, ap, sym, refl, subst, arith, ℕ, ◌≤◌, ◌==◌, true, false, cond, List, [], ◌∷◌, ◌++◌, length, drop, Option, Some, None, Result, Ok, Err, IfErr, OnOk, append_assoc, append-nil, length-append, inl, inr}
+use Rattle.std.proofs.Common.{◌≡◌, ◌∙◌, ap, sym, refl, subst, arith, ℕ, ◌+◌, ◌*◌, ◌^◌, ◌≤◌, ◌==◌, true, false, cond, List, [], ◌∷◌, ◌++◌, length, drop, Option, Result, Ok, Err, IfErr, OnOk, append_assoc, append-nil, length-append, inl, inr}
 use Rattle.std.specs.Bool.{MatchBool}
 use Rattle.std.specs.Io.KnownBytes.{Appends}
 use Rattle.std.proofs.KnownBytes.{Appends-trans}
-use Rattle.ssap_grammar.specs.Stream.{Placed}
 use Rattle.sib_io.specs.Causes.{AppendsPart}
 use Rattle.sib_io.proofs.KnownLemmas.{part_after, part_of_more}
 use Rattle.sib_script.specs.declared.entry.Entry.{Entry}
@@ -11,32 +10,24 @@ use Rattle.sib_script.specs.declared.entry.Entry.TheVariants.{NewLink, Bytes, En
 use Rattle.sib_script.specs.Script.{entry_spelling, script_spelling, Splits}
 use Rattle.sib_script.specs.Reading.{Reading}
 use Rattle.sib_script.proofs.ScriptLaws.{script_spelling-push, entries_push, splits_front, splits_reading}
-use Rattle.sib_app.specs.Output.{Event, Opens, Full, Stops, Ends, Closed, is_full, is_open, heard, asked_on, AreAsked, IsHeard, IsEnded, IsTaken, AreTakenAfter, AreTaken, answers, answers_after, farewell}
-use Rattle.sib_app.specs.Session.{Answers, Replays, Holds, Fails, GivesFront, Delivers, Fits}
+use Rattle.sib_app.specs.Output.{Event, Opens, Hears, Stops, Ends, Closed, is_open_after, heard, arrived_on, IsHeard, IsEnded, IsTaken, AreTakenAfter, AreTaken, answers, answers_after, farewell}
+use Rattle.sib_app.specs.Session.{Answers, Replays, Holds, Fails, GivesFront, Delivers, Fits, weight}
 use Rattle.sib_app.specs.declared.why.Why.TheVariants.{Cut}
 use Rattle.sib_app.specs.declared.session.Session.{Session}
 use Rattle.sib_app.specs.declared.ending.Ending.{Ending}
 use Rattle.sib_app.specs.declared.ending.Ending.TheVariants.{Done, BadScript, ReadFault, WriteFault, NoMemory, Spent}
-use Rattle.sib_app.proofs.SessionLemmas.{heard-append}
-use Rattle.sib_app.proofs.OutputLemmas.{answers_after-append, answers-append, taken-push, told_front}
+use Rattle.sib_app.proofs.EventLemmas.{heard-append, arrived_quiet, answers_after-append}
+use Rattle.sib_app.proofs.OutputLemmas.{answers-append, taken-push, told_front}
 
 -- a delivery's spelling is longer than its bytes
 spelled_longer : (link : ℕ) (bytes : List ℕ) → length bytes ≤ length (entry_spelling (Bytes link bytes))
 unfolding entry_spelling
 spelled_longer link bytes = simp length-append (omega arith)
 
--- what messages are taken as brings no bytes
-asked_quiet : (name : List ℕ) (link other : ℕ) (front rest : List ℕ) (messages : List Placed) (events : List Event) → AreAsked name other front rest messages events → heard events link ≡ []
-asked_quiet name link other front rest [] events (None, stands, is) = ap (λ vs. heard vs link) is
-asked_quiet name link other front rest [] events (Some why, stands, is) = ap (λ vs. heard vs link) is
-asked_quiet name link other front rest (message ∷ messages) events (None, taken, is) = ap (λ vs. heard vs link) is
-asked_quiet name link other front rest (message ∷ messages) events (Some request, taken, (others, is, more)) =
-    ap (λ vs. heard vs link) is ∙ asked_quiet name link other front rest messages others more
-
 -- a delivery brings no more than its bytes
 heard_within : (name : List ℕ) (before : List Event) (link other : ℕ) (bytes : List ℕ) (events : List Event) → IsHeard name before other bytes events → length (heard events link) ≤ length bytes
 heard_within name before link other bytes events (others, is, h) =
-    let quiet = asked_quiet name link other h.front h.rest (drop (asked_on before other) h.messages) others h.taken in
+    let quiet = arrived_quiet name (before ++ Hears other bytes ∷ []) link other h.front h.rest (drop (arrived_on before other) h.messages) others h.taken in
     let all : heard events link ≡ cond (other == link) bytes [] = ap (λ vs. heard vs link) is ∙ ap (λ l. cond (other == link) bytes [] ++ l) quiet ∙ append-nil (cond (other == link) bytes []) in
     subst (λ l. length l ≤ length bytes) (sym all) (elim (other == link) as (λ b. length (cond b bytes []) ≤ length bytes) [ true ↦ omega arith | false ↦ omega arith ])
 
@@ -47,14 +38,14 @@ quiet_within link e v w is none = subst (λ l. length l ≤ length (entry_spelli
 -- an entry brings no more than its spelling
 brought_within : (name : List ℕ) (before : List Event) (link : ℕ) (e : Entry) (v : List Event) → IsTaken name before e v → length (heard v link) ≤ length (entry_spelling e)
 brought_within name before link NewLink v t =
-    quiet_within link NewLink v _ t (elim (is_full before) as (λ b. heard (cond b Full Opens ∷ []) link ≡ []) [ true ↦ refl | false ↦ refl ])
+    quiet_within link NewLink v (Opens ∷ []) t refl
 brought_within name before link (Bytes other bytes) v t =
-    elim (is_open before other) as (λ b. MatchBool b (IsHeard name before other bytes v) (v ≡ Closed other ∷ []) → length (heard v link) ≤ length (entry_spelling (Bytes other bytes))) [
+    elim (is_open_after name before other) as (λ b. MatchBool b (IsHeard name before other bytes v) (v ≡ Closed other ∷ []) → length (heard v link) ≤ length (entry_spelling (Bytes other bytes))) [
       | true ↦ λ h. omega (arith, heard_within name before link other bytes v h, spelled_longer other bytes)
       | false ↦ λ h. quiet_within link (Bytes other bytes) v (Closed other ∷ []) h refl
     ] t
 brought_within name before link (End other) v t =
-    elim (is_open before other) as (λ b. MatchBool b (IsEnded before other v) (v ≡ Closed other ∷ []) → length (heard v link) ≤ length (entry_spelling (End other))) [
+    elim (is_open_after name before other) as (λ b. MatchBool b (IsEnded before other v) (v ≡ Closed other ∷ []) → length (heard v link) ≤ length (entry_spelling (End other))) [
       | true ↦ λ h. ended h
       | false ↦ λ h. quiet_within link (End other) v (Closed other ∷ []) h refl
     ] t
@@ -92,16 +83,29 @@ fits_of_held name old new read (Bytes link bytes) reader session h =
     )
 fits_of_held name old new read (End link) reader session h = tt
 
+-- an entry makes no more calls than it has bytes
+weight_within : (e : Entry) → weight e ≤ length (entry_spelling e)
+unfolding entry_spelling
+weight_within NewLink = omega arith
+weight_within (Bytes link bytes) = simp length-append (omega arith)
+weight_within (End link) = simp length-append (omega arith)
+
+-- the calls of an entry that was read whole can be counted
+pub room_of_held : (name : List ℕ) (old new : Option (List ℕ)) (read : List ℕ) (entry : Entry) (reader : Reading) (session : Session)
+    → Holds name old new read entry reader session → session.core.count + 2 * weight entry ≤ 2 ^ 62
+room_of_held name old new read entry reader session h =
+    omega (arith, h.small, h.counted, ap length h.spelled, length-append (script_spelling h.entries) (entry_spelling entry), weight_within entry)
+
 -- a front of the answers to the entries that were read is a front of all that is written
 pub front_of_output : (name : List ℕ) (old now : Option (List ℕ)) (read rest : List ℕ) (es : List Entry) (ds : List Event) → Splits read es rest
     → AreTaken name es ds → AppendsPart old now (answers name ds) → GivesFront name old now read
-front_of_output name old now read rest es ds s t part more output (fs, left, gs, splits, told, is) =
+front_of_output name old now read rest es ds s t part more output (fs, left, gs, place, splits, at, told, is) =
     let grown = splits_front read more es fs rest left s splits in
     let same = told_front name es grown.0 ds gs t (subst (λ l. AreTaken name l gs) grown.1 told) in
-    let behind : List ℕ = answers_after name ds same.0 ++ farewell name gs left in
+    let behind : List ℕ = answers_after name ds same.0 ++ farewell name gs place left in
     let whole : answers name ds ++ behind ≡ output =
-    sym (append_assoc (answers name ds) (answers_after name ds same.0) (farewell name gs left))
-    ∙ ap (λ l. l ++ farewell name gs left) (sym (ap (answers name) same.1 ∙ answers_after-append name [] ds same.0))
+    sym (append_assoc (answers name ds) (answers_after name ds same.0) (farewell name gs place left))
+    ∙ ap (λ l. l ++ farewell name gs place left) (sym (ap (answers name) same.1 ∙ answers_after-append name [] ds same.0))
     ∙ sym is
     in
     subst (AppendsPart old now) whole (part_of_more old now (answers name ds) behind part)
@@ -116,8 +120,8 @@ held_splits name old new read entry reader session h =
 -- an entry whose answer was given is answered
 replays_entry : (name : List ℕ) (old given now : Option (List ℕ)) (read : List ℕ) (entry : Entry) (written : List ℕ) (reader : Reading) (session new : Session)
     → (h : Holds name old given read entry reader session) → Answers name h.events entry written new → Appends given now written
-    → Replays name old now read reader new
-replays_entry name old given now read entry written reader session new h a p = record {
+    → new.core.count ≤ session.core.count + 2 * weight entry → Replays name old now read reader new
+replays_entry name old given now read entry written reader session new h a p few = record {
   entries = h.entries ++ entry ∷ [];
   events = h.events ++ a.events;
   allowed = entries_push h.entries entry h.allowed h.comes;
@@ -128,6 +132,7 @@ replays_entry name old given now read entry written reader session new h a p = r
   taken = h.taken;
   told = taken-push name h.entries h.events entry a.events h.told a.taken;
   stands = a.stands;
+  counted = omega (arith, few, h.counted, weight_within entry, ap length (script_spelling-push h.entries entry), length-append (script_spelling h.entries) (entry_spelling entry));
   given = subst (Appends old now) (ap (λ l. answers name h.events ++ l) a.answer ∙ sym (answers-append name h.events a.events))
       (Appends-trans old given now (answers name h.events) written h.given p);
 }
@@ -146,15 +151,15 @@ front_of_answer name old given now read entry written reader session new h a p =
 -- where nothing more was given, it was given a front of all that is written
 front_of_held : (name : List ℕ) (old given : Option (List ℕ)) (read : List ℕ) (entry : Entry) (reader : Reading) (session : Session)
     → Holds name old given read entry reader session → GivesFront name old given read
-front_of_held name old given read entry reader session h more output (fs, left, gs, splits, told, is) =
+front_of_held name old given read entry reader session h more output (fs, left, gs, place, splits, at, told, is) =
     let grown = splits_front read more (h.entries ++ entry ∷ []) fs [] left (held_splits name old given read entry reader session h) splits in
     let tail : List Entry = entry ∷ grown.0 in
     let grown_on : fs ≡ h.entries ++ tail = grown.1 ∙ append_assoc h.entries (entry ∷ []) grown.0 in
     let same = told_front name h.entries tail h.events gs h.told (subst (λ l. AreTaken name l gs) grown_on told) in
-    let behind : List ℕ = answers_after name h.events same.0 ++ farewell name gs left in
+    let behind : List ℕ = answers_after name h.events same.0 ++ farewell name gs place left in
     let whole : answers name h.events ++ behind ≡ output =
-    sym (append_assoc (answers name h.events) (answers_after name h.events same.0) (farewell name gs left))
-    ∙ ap (λ l. l ++ farewell name gs left) (sym (ap (answers name) same.1 ∙ answers_after-append name [] h.events same.0))
+    sym (append_assoc (answers name h.events) (answers_after name h.events same.0) (farewell name gs place left))
+    ∙ ap (λ l. l ++ farewell name gs place left) (sym (ap (answers name) same.1 ∙ answers_after-append name [] h.events same.0))
     ∙ sym is
     in
     (answers name h.events, behind, whole, h.given)
@@ -162,10 +167,11 @@ front_of_held name old given read entry reader session h more output (fs, left, 
 -- an entry that was answered goes on
 pub entry_goes_on : (name : List ℕ) (old given now : Option (List ℕ)) (faults risen : ℕ) (read : List ℕ) (entry : Entry) (reader : Reading) (session new : Session)
     (result : Result (Unit {0}) Ending) → (h : Holds name old given read entry reader session)
-    → Delivers name h.events entry given now faults risen new result → OnOk result (Replays name old now read reader new)
-entry_goes_on name old given now faults risen read entry reader session new (Ok done) h (written, a, p) =
-    replays_entry name old given now read entry written reader session new h a p
-entry_goes_on name old given now faults risen read entry reader session new (Err ending) h p = tt
+    → Delivers name h.events entry given now faults risen new result → OnOk result (new.core.count ≤ session.core.count + 2 * weight entry)
+    → OnOk result (Replays name old now read reader new)
+entry_goes_on name old given now faults risen read entry reader session new (Ok done) h (written, a, p) few =
+    replays_entry name old given now read entry written reader session new h a p few
+entry_goes_on name old given now faults risen read entry reader session new (Err ending) h p few = tt
 
 -- an entry that could not be answered stops the replay
 pub entry_stops : (name : List ℕ) (old given now : Option (List ℕ)) (faults risen : ℕ) (read : List ℕ) (entry : Entry) (reader : Reading) (session new : Session)

@@ -1,13 +1,14 @@
 -- What each status of a replay says of a source that tells its bytes.
-use Rattle.std.proofs.Common.{◌≡◌, ◌∙◌, ap, sym, refl, subst, arith, ℕ, ◌<◌, ◌≤◌, List, [], ◌∷◌, ◌++◌, ◌⊎◌, length, Option, Some, None, IfSome, codes, append-nil, append_assoc, length-append, inl, inr}
+use Rattle.std.proofs.Common.{◌≡◌, ◌∙◌, ap, sym, refl, subst, arith, ℕ, ◌<◌, ◌≤◌, List, [], ◌∷◌, ◌++◌, ◌⊎◌, length, Option, Some, None, IfSome, codes, append-nil, length-append, inl, inr}
 use Rattle.std.specs.Io.KnownBytes.{Appends, Consumes, IsAtEnd, Keeps}
 use Rattle.std.proofs.KnownBytes.{Consumes-nil, Keeps-refl}
 use Rattle.sib_io.specs.Causes.{Rose, AppendsPart}
 use Rattle.sib_io.proofs.KnownLemmas.{whole_part, kept_part, part_kept}
 use Rattle.sib_script.specs.declared.entry.Entry.{Entry}
-use Rattle.sib_script.specs.Script.{entry_spelling, script_spelling, Splits, IsScript, BeginsScript}
-use Rattle.sib_script.proofs.ScriptLaws.{splits_script, splits_unique, inside_no_script, script_spelling-push, entries_push}
-use Rattle.m3_terms.proofs.Lists.{heads_same, tails_same, fronts, Shorter, Longer}
+use Rattle.sib_script.specs.Script.{IsScript}
+use Rattle.sib_script.proofs.ScriptLaws.{splits_script, splits_unique, inside_no_script}
+use Rattle.sib_script.proofs.Places.{place_stays}
+use Rattle.m3_terms.proofs.Lists.{heads_same, tails_same}
 use Rattle.sib_app.specs.Output.{answers, farewell, AreTaken, IsOutput}
 use Rattle.sib_app.specs.Ending.{Outside, Ended, Outcome, GivesPart, GivesAnswers, GivesAll, GivesBefore, IsReplay, status_of}
 use Rattle.sib_app.specs.Session.{GivesFront}
@@ -16,6 +17,7 @@ use Rattle.sib_app.specs.declared.ending.Ending.{Ending}
 use Rattle.sib_app.specs.declared.ending.Ending.TheVariants.{Done, BadScript, ReadFault, WriteFault, NoMemory, Spent}
 use Rattle.sib_app.proofs.OutputLemmas.{told_same}
 use Rattle.sib_app.proofs.ReplayLemmas.{front_of_output}
+use Rattle.sib_app.proofs.FaultLemmas.{dead_stays, output_of_fault, output_of_dead}
 use Rattle.sib_app.proofs.EndLemmas.{rose_earlier}
 
 -- what is left behind the bytes that were read, of a source that tells
@@ -38,24 +40,6 @@ told : (P : List ℕ → Type 0) (o : Option (List ℕ)) → ((all : List ℕ) �
 told P None f = tt
 told P (Some all) f = f all refl
 
--- entries and a rest that no entry goes on with stay as more follows
-dead_stays : (b : List ℕ) (es : List Entry) (r more : List ℕ) → Splits b es r → ¬ (BeginsScript b) → Splits (b ++ more) es (r ++ more)
-dead_stays b es r more s dead = record {
-  allowed = s.allowed;
-  spelled = ap (λ l. l ++ more) s.spelled ∙ append_assoc (script_spelling es) r more;
-  partial = λ e m a h. elim (fronts r more (entry_spelling e) m h) as (λ _. ⊥) [
-    | Shorter k p q ↦ dead (
-      k,
-      es ++ e ∷ [],
-      record {
-        allowed = entries_push es e s.allowed a;
-        spelled = ap (λ l. l ++ k) s.spelled ∙ append_assoc (script_spelling es) r k ∙ ap (λ l. script_spelling es ++ l) p ∙ sym (script_spelling-push es e);
-      },
-    )
-    | Longer k p q ↦ s.partial e k a (sym p)
-  ];
-}
-
 -- all that was given is a front of the output where the answers to the whole entries were
 front_of_answers : (name : List ℕ) (old new : Option (List ℕ)) (read rest : List ℕ) → GivesAnswers name old new read rest → GivesFront name old new read
 front_of_answers name old new read rest g =
@@ -63,11 +47,11 @@ front_of_answers name old new read rest g =
 
 -- the whole output of a script is what was given
 all_of_output : (name : List ℕ) (old new : Option (List ℕ)) (read output : List ℕ) → GivesAll name old new read → IsOutput name read output → Appends old new output
-all_of_output name old new read output g (fs, left, gs, splits, taken, is) =
+all_of_output name old new read output g (fs, left, gs, place, splits, at, taken, is) =
     let same = splits_unique read g.entries fs [] left (splits_script read g.entries g.script) splits in
     let gone : gs ≡ g.events = told_same name g.entries g.events gs g.taken (subst (λ l. AreTaken name l gs) (sym same.0) taken) in
-    subst (Appends old new) (ap (λ l. answers name g.events ++ farewell name g.events l) same.1
-    ∙ ap (λ ds. answers name ds ++ farewell name ds left) (sym gone) ∙ sym is) g.given
+    subst (Appends old new) (ap (λ l. answers name g.events ++ farewell name g.events place l) same.1
+    ∙ ap (λ ds. answers name ds ++ farewell name ds place left) (sym gone) ∙ sym is) g.given
 
 module _ (name : List ℕ) (old new : Outside) where
   -- an input that is a script was answered whole
@@ -79,7 +63,7 @@ module _ (name : List ℕ) (old new : Outside) where
   -- an input that is no script was answered up to its first fault
   pub ended_bad : Ended name old new BadScript → IfSome old.left (GivesBefore name old.given new.given)
   ended_bad e =
-      let (below, rest, some, where_, gives) = e.outcome in
+      let (below, where_, rest, gives) = e.outcome in
       told (GivesBefore name old.given new.given) old.left (λ all is.
       elim where_ as (λ _. GivesBefore name old.given new.given all) [
         | inl dead ↦
@@ -90,13 +74,16 @@ module _ (name : List ℕ) (old new : Outside) where
               record {
                 entries = gives.entries;
                 events = gives.events;
+                place = gives.place;
                 splits = dead_stays e.read gives.entries rest more gives.splits dead;
+                some = omega (arith, gives.some, length-append rest more);
+                at = place_stays e.read more gives.place gives.at dead;
                 taken = gives.taken;
                 given = gives.given;
               },
             )
         | inr end ↦ subst (GivesBefore name old.given new.given) (sym (all_read old.left new.left e.read all e.consumed end is))
-            (λ es s. inside_no_script e.read gives.entries rest gives.splits some es s, rest, gives)
+            (λ es s. inside_no_script e.read gives.entries rest gives.splits gives.some es s, rest, gives)
       ])
 
   -- what was given is a front of all that is written for the bytes that were read and those that are left
@@ -107,7 +94,13 @@ module _ (name : List ℕ) (old new : Outside) where
       by_outcome Done (below, end, gives) more output left here =
           whole_part old.given new.given output (all_of_output name old.given new.given e.read output gives
           (subst (λ l. IsOutput name l output) (ap (λ l. e.read ++ l) (subst IsAtEnd left end) ∙ append-nil e.read) here))
-      by_outcome BadScript (below, rest, some, where_, gives) more output left here = front_of_answers name old.given new.given e.read rest gives more output here
+      by_outcome BadScript (below, inl dead, rest, g) more output left here =
+          whole_part old.given new.given output (subst (Appends old.given new.given)
+          (output_of_dead name e.read rest more g.entries g.events g.place output g.splits g.some g.taken g.at dead here) g.given)
+      by_outcome BadScript (below, inr end, rest, g) more output left here =
+          whole_part old.given new.given output (subst (Appends old.given new.given)
+          (output_of_fault name e.read rest g.entries g.events g.place output g.splits g.some g.taken g.at
+          (subst (λ l. IsOutput name l output) (ap (λ l. e.read ++ l) (subst IsAtEnd left end) ∙ append-nil e.read) here)) g.given)
       by_outcome ReadFault (below, rose, begins, rest, gives) more output left here = front_of_answers name old.given new.given e.read rest gives more output here
       by_outcome WriteFault (rose, part) more output left here = part more output left here
       by_outcome NoMemory part more output left here = part more output left here

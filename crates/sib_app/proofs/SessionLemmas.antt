@@ -1,329 +1,342 @@
--- What events more do to what a session stands for.
-use Rattle.std.proofs.Common.{◌≡◌, ◌≢◌, ◌∙◌, ap, sym, refl, subst, arith, ℕ, ◌+◌, ◌<◌, ◌==◌, Bool, true, false, cond, ◌&&◌, ◌||◌, not, nat_le, List, [], ◌∷◌, ◌++◌, length, map, Option, Some, None, append-nil, length-append, inl, inr}
-use Rattle.std.specs.List.{list_any}
-use Rattle.std.proofs.lemmas.Bool.{le-leb}
-use Rattle.std.proofs.lemmas.Bool.Decides.{eqb_tells, leb_tells}
-use Rattle.std.proofs.lemmas.Grind.{flat_map-append}
-use Rattle.std.proofs.lemmas.List.Folds.{list_any-append}
-use Rattle.std.proofs.lemmas.List.Sums.{sum_by-append, sum_by-cons}
+-- What entries do to what a session stands for.
+use Rattle.std.proofs.Common.{◌≡◌, ◌≢◌, ◌∙◌, ap, sym, refl, subst, arith, ℕ, ◌+◌, ◌<◌, ◌==◌, Bool, true, false, cond, List, [], ◌∷◌, ◌++◌, ⊎_elim, length, drop, Option, Some, None, Err, append_assoc, append-nil, length-append, inl, inr}
+use Rattle.std.specs.Bool.{MatchBool}
+use Rattle.std.specs.List.{AllByRecursion}
+use Rattle.std.specs.Ordering.{nat_cmp, is_eq}
+use Rattle.std.specs.Cmp.{unsigned_tied}
+use Rattle.std.specs.BTreeMap as tree
+use Rattle.std.proofs.lemmas.Bool.{cases_eq, eq-eqb}
+use Rattle.link_table.specs.Links.{Link, new_link, is_open, is_full, link_at, state_of, state_or_never, pending_of, pending_or_none}
+use Rattle.ssap_grammar.specs.Stream.{IsInside}
 use Rattle.ssap_decode.specs.Decoding.{Decoding}
-use Rattle.session_core.specs.declared.request.FirstRequest.{FirstRequest}
-use Rattle.session_core.specs.Space.{Space, empty_space, after, after_all}
-use Rattle.sib_app.specs.Output.{Event, Opens, Hears, Asks, is_opening, closed_by, brought_on, asks_on, asked_by, opened, closed, is_open, heard, asked_on, requests_of, space_after, stops_of}
-use Rattle.sib_app.specs.Session.{Follows, IsNone, IsOne, Knows, IsFresh, Stands}
+use Rattle.ssap_decode.specs.Standing as decoding
+use Rattle.ssap_decode.specs.declared.framed.Stop as stop
+use Rattle.session_core.specs.Space.{Space, State}
+use Rattle.session_core.specs.Steps.{step, with_links}
+use Rattle.session_core.specs.Runs.{run_from}
+use Rattle.session_core.specs.declared.call.Call.TheVariants as call
+use Rattle.sib_script.specs.declared.entry.Entry.{Entry}
+use Rattle.sib_script.specs.declared.entry.Entry.TheVariants.{NewLink, Bytes, End}
+use Rattle.sib_app.specs.Output.{Event, Opens, Hears, Stops, Ends, Closed, calls_with, calls_at, space_after, is_open_after, heard, arrived_on, IsHeard, IsEnded, IsTaken, answer, answers_after, event_lines, reply_lines, closed_line}
+use Rattle.sib_app.specs.Session.{Follows, HearsAll, EndsAs, Knows, IsFresh, IsDrained, Stands, Answers, reason_in, opened_in, why_of}
+use Rattle.sib_app.specs.declared.acting.Reason.{Reason}
 use Rattle.sib_app.specs.declared.why.Why.{Why}
+use Rattle.sib_app.specs.declared.why.Why.TheVariants.{Cut}
 use Rattle.sib_app.specs.declared.session.Session.{Session}
-use Rattle.sib_app.proofs.HearingLemmas.{name_after_all}
+use Rattle.sib_app.proofs.LinkLemmas.{none_some, some_same, some_within, at_opened, at_before}
+use Rattle.sib_app.proofs.CallLemmas.{open_some, end_closes, opens_not, opens}
+use Rattle.sib_app.proofs.EventLemmas.{IsOf, ne-eqb, space-push, events_leave, heard-append, arrived-append, arrived-cons, arrived_of, arrived_quiet, others_quiet}
 
--- the space of a name has that name
-pub name_of_space : (name : List ℕ) (before : List Event) → (space_after name before).name ≡ name
-name_of_space name before = name_after_all (empty_space name) (requests_of before)
+-- the decoder of a link, if it has one
+abbrev pub found : Session → ℕ → Option Decoding
+found session link = tree.get nat_cmp session.decoders link
 
--- some requests and then others
-after_all-append : (space : Space) (requests others : List FirstRequest) → after_all space (requests ++ others) ≡ after_all (after_all space requests) others
-after_all-append space [] others = refl
-after_all-append space (first ∷ requests) others = after_all-append (after space first) requests others
+-- a number is found at itself, and at no other
+key_same : (n m : ℕ) → n ≡ m → is_eq (nat_cmp n m) ≡ true
+key_same n m e = unsigned_tied n m ∙ eq-eqb n m e
 
-module _ (before vs : List Event) where
-  -- the links with some events more
-  pub opened-append : opened (before ++ vs) ≡ opened before + opened vs
-  opened-append = sum_by-append (λ x. cond (is_opening x) 1 0) before vs
+key_other : (n m : ℕ) → n ≢ m → is_eq (nat_cmp n m) ≡ false
+key_other n m e = unsigned_tied n m ∙ ne-eqb n m e
 
-  pub closed-append : closed (before ++ vs) ≡ closed before ++ closed vs
-  closed-append = flat_map-append closed_by before vs
+-- what a map has at the number that changed, and at another
+pub gets_here : (x a b : Option Decoding) (n : ℕ) → x ≡ cond (is_eq (nat_cmp n n)) a b → x ≡ a
+gets_here x a b n e = e ∙ ap (λ t. cond t a b) (key_same n n refl)
 
-  pub heard-append : (link : ℕ) → heard (before ++ vs) link ≡ heard before link ++ heard vs link
-  heard-append link = flat_map-append (brought_on link) before vs
+pub gets_other : (x a b : Option Decoding) (n m : ℕ) → n ≢ m → x ≡ cond (is_eq (nat_cmp n m)) a b → x ≡ b
+gets_other x a b n m apart e = e ∙ ap (λ t. cond t a b) (key_other n m apart)
 
-  pub asked-append : (link : ℕ) → asked_on (before ++ vs) link ≡ asked_on before link + asked_on vs link
-  asked-append link = sum_by-append (λ x. cond (asks_on link x) 1 0) before vs
+-- a link with a decoder is open, and it follows what came there
+pub knows_some : (before : List Event) (link : ℕ) (b : Bool) (o : Option Decoding) (d : Decoding) → o ≡ Some d → Knows before link b o → (b ≡ true) × Follows d (heard before link) (arrived_on before link)
+knows_some before link true None d e k = absurd k
+knows_some before link true (Some x) d e k = (refl, subst (λ y. Follows y (heard before link) (arrived_on before link)) (some_same x d e) k)
+knows_some before link false o d e k = absurd (none_some d (sym k ∙ e))
 
-  pub space-append : (name : List ℕ) → space_after name (before ++ vs) ≡ after_all (space_after name before) (requests_of vs)
-  space-append name = ap (after_all (empty_space name)) (flat_map-append asked_by before vs) ∙ after_all-append (empty_space name) (requests_of before) (requests_of vs)
+-- a link without one isn't
+pub knows_none : (before : List Event) (link : ℕ) (b : Bool) (o : Option Decoding) → o ≡ None → Knows before link b o → b ≡ false
+knows_none before link true None e k = absurd k
+knows_none before link true (Some x) e k = absurd (none_some x (sym e))
+knows_none before link false o e k = refl
 
-  opened-kept : opened vs ≡ 0 → opened (before ++ vs) ≡ opened before
-  opened-kept h = let more = opened-append in omega (arith, more, h)
+-- what is known stays where nothing came
+knows_same : (before now : List Event) (link : ℕ) (b : Bool) (o : Option Decoding) → heard now link ≡ heard before link → arrived_on now link ≡ arrived_on before link → Knows before link b o → Knows now link b o
+knows_same before now link true None h a k = absurd k
+knows_same before now link true (Some d) h a k = subst (λ l. Follows d l (arrived_on now link)) (sym h) (subst (Follows d (heard before link)) (sym a) k)
+knows_same before now link false o h a k = k
 
-  closed-kept : closed vs ≡ [] → closed (before ++ vs) ≡ closed before
-  closed-kept h = closed-append ∙ ap (λ l. closed before ++ l) h ∙ append-nil (closed before)
+module _ (before vs : List Event) (link : ℕ) (quiet : (heard vs link ≡ []) × (arrived_on vs link ≡ 0)) where
+  heard_kept : heard (before ++ vs) link ≡ heard before link
+  heard_kept = heard-append before vs link ∙ ap (λ l. heard before link ++ l) quiet.0 ∙ append-nil (heard before link)
 
-  heard-kept : (link : ℕ) → heard vs link ≡ [] → heard (before ++ vs) link ≡ heard before link
-  heard-kept link h = heard-append link ∙ ap (λ l. heard before link ++ l) h ∙ append-nil (heard before link)
+  arrived_kept : arrived_on (before ++ vs) link ≡ arrived_on before link
+  arrived_kept = arrived-append before vs link ∙ omega (arith, quiet.1)
 
-  asked-kept : (link : ℕ) → asked_on vs link ≡ 0 → asked_on (before ++ vs) link ≡ asked_on before link
-  asked-kept link h = let more = asked-append link in omega (arith, more, h)
+  fresh_kept : IsFresh before link → IsFresh (before ++ vs) link
+  fresh_kept f = record { unheard = heard_kept ∙ f.unheard; unmet = arrived_kept ∙ f.unmet }
 
--- whether a link is open, told from the counts
-open_of : ℕ → List ℕ → ℕ → Bool
-open_of count gone link = (nat_le 1 link && nat_le link count) && not (list_any (λ other. other == link) gone)
-
--- the same links are open where the same were opened and closed
-pub open_same : (before now : List Event) (link : ℕ) → opened now ≡ opened before → closed now ≡ closed before → is_open now link ≡ is_open before link
-unfolding open_of
-open_same before now link o c = ap (λ n. open_of n (closed now) link) o ∙ ap (λ l. open_of (opened before) l link) c
-
--- what is known stays where nothing happened to the links
-none_same : (before now : List Event) → opened now ≡ opened before → closed now ≡ closed before → IsNone before → IsNone now
-none_same before now o c k = record {
-  none = λ link. open_same before now link o c ∙ k.none link;
-  counted = o ∙ k.counted ∙ sym (ap length c);
-}
-
-one_same : (before now : List Event) (last : ℕ) → opened now ≡ opened before → closed now ≡ closed before → IsOne before last → IsOne now last
-one_same before now last o c k = record {
-  one = λ link. open_same before now link o c ∙ k.one link;
-  counted = o ∙ k.counted ∙ ap (λ l. 1 + length l) (sym c);
-}
-
-knows_same : (before now : List Event) (last : ℕ) (decoder : Option Decoding) → opened now ≡ opened before → closed now ≡ closed before
-    → heard now last ≡ heard before last → asked_on now last ≡ asked_on before last → Knows before last decoder → Knows now last decoder
-knows_same before now last None o c h a k = none_same before now o c k
-knows_same before now last (Some d) o c h a k =
-    (one_same before now last o c k.0, subst (λ l. Follows d l (asked_on now last)) (sym h) (subst (Follows d (heard before last)) (sym a) k.1))
-
--- a link stays fresh
-fresh_same : (before vs : List Event) (link : ℕ) → closed vs ≡ [] → heard vs link ≡ [] → asked_on vs link ≡ 0 → IsFresh before link → IsFresh (before ++ vs) link
-fresh_same before vs link c h a f = record {
-  unclosed = ap (list_any (λ other. other == link)) (closed-kept before vs c) ∙ f.unclosed;
-  unheard = heard-kept before vs link h ∙ f.unheard;
-  unasked = asked-kept before vs link a ∙ f.unasked;
-}
-
--- events that do nothing but being answered
-pub stands_silent : (name : List ℕ) (before vs : List Event) (session : Session) → opened vs ≡ 0 → closed vs ≡ [] → ((link : ℕ) → heard vs link ≡ [])
-    → ((link : ℕ) → asked_on vs link ≡ 0) → requests_of vs ≡ [] → Stands name session before → Stands name session (before ++ vs)
-stands_silent name before vs session o c h a r s = record {
-  core = s.core ∙ sym (space-append before vs name ∙ ap (after_all (space_after name before)) r);
-  last = s.last ∙ sym (opened-kept before vs o);
-  knows = knows_same before (before ++ vs) session.opened session.decoder (opened-kept before vs o) (closed-kept before vs c)
-      (heard-kept before vs session.opened (h session.opened)) (asked-kept before vs session.opened (a session.opened)) s.knows;
-  fresh = λ link more. fresh_same before vs link c (h link) (a link) (s.fresh link (omega (arith, more, opened-kept before vs o)));
-}
-
--- a number is not above itself
-within : (a b : ℕ) → b < a → nat_le a b ≡ false
-within a b h = elim (leb_tells a b) as (λ _. nat_le a b ≡ false) [ inl told ↦ absurd (omega (arith, told.1)) | inr off ↦ off.0 ]
-
--- numbers that differ are told apart
-apart : (a b : ℕ) → a ≢ b → (a == b) ≡ false
-apart a b h = elim (eqb_tells a b) as (λ _. (a == b) ≡ false) [ inl told ↦ absurd (h told.1) | inr off ↦ off.0 ]
-
--- the links that are open where one more was opened
-open_more : (count : ℕ) (gone : List ℕ) (link : ℕ) → list_any (λ other. other == count + 1) gone ≡ false → open_of count gone link ≡ false
-    → open_of (count + 1) gone link ≡ (count + 1 == link)
-unfolding open_of
-open_more count gone link f none =
-    elim (eqb_tells (count + 1) link) as (λ _. open_of (count + 1) gone link ≡ (count + 1 == link)) [
-      | inl same ↦
-          let known : list_any (λ other. other == link) gone ≡ false = subst (λ n. list_any (λ other. other == n) gone ≡ false) same.1 f in
-          let low : nat_le 1 link ≡ true = le-leb 1 link (omega (arith, same.1)) in
-          let high : nat_le link (count + 1) ≡ true = le-leb link (count + 1) (omega (arith, same.1)) in
-          ap (λ b. (b && nat_le link (count + 1)) && not (list_any (λ other. other == link) gone)) low
-          ∙ ap (λ b. b && not (list_any (λ other. other == link) gone)) high ∙ ap not known ∙ sym same.0
-      | inr other ↦ elim (leb_tells link count) as (λ _. open_of (count + 1) gone link ≡ (count + 1 == link)) [
-        | inl old ↦
-            let now : nat_le link (count + 1) ≡ nat_le link count = le-leb link (count + 1) (omega (arith, old.1)) ∙ sym old.0 in
-            ap (λ b. (nat_le 1 link && b) && not (list_any (λ other. other == link) gone)) now ∙ none ∙ sym other.0
-        | inr new ↦
-            let past : nat_le link (count + 1) ≡ false = within link (count + 1) (omega (arith, new.1, other.1)) in
-            ap (λ b. (nat_le 1 link && b) && not (list_any (λ x. x == link) gone)) past
-            ∙ elim (nat_le 1 link) as (λ b. ((b && false) && not (list_any (λ x. x == link) gone)) ≡ false) [ true ↦ refl | false ↦ refl ] ∙ sym other.0
-      ]
-    ]
-
--- what was open is no more, where it is closed
-closed_too : (r a m : Bool) → (r && not a) ≡ m → (r && not (a || (m || false))) ≡ false
-closed_too true true true h = refl
-closed_too true true false h = refl
-closed_too true false true h = refl
-closed_too true false false h = h
-closed_too false a m h = refl
-
--- the links that are open where the last one closed
-open_less : (count : ℕ) (gone : List ℕ) (last link : ℕ) → open_of count gone link ≡ (last == link) → open_of count (gone ++ last ∷ []) link ≡ false
-unfolding open_of
-open_less count gone last link h =
-    ap (λ b. (nat_le 1 link && nat_le link count) && not b) (list_any-append (λ other. other == link) gone (last ∷ []))
-    ∙ closed_too (nat_le 1 link && nat_le link count) (list_any (λ other. other == link) gone) (last == link) h
-
--- a link opens where none is open
-pub stands_opens : (name : List ℕ) (before : List Event) (session new : Session) (decoder : Decoding) → session.decoder ≡ None → Follows decoder [] 0
-    → new ≡ record session { opened = session.opened + 1; decoder = Some decoder } → Stands name session before → Stands name new (before ++ Opens ∷ [])
-unfolding open_of
-stands_opens name before session new decoder none f is s =
-    let now : List Event = before ++ Opens ∷ [] in
-    let vs : List Event = Opens ∷ [] in
-    let known : IsNone before = subst (Knows before session.opened) none s.knows in
-    let more : opened now ≡ opened before + 1 = opened-append before vs in
-    let gone : closed now ≡ closed before = closed-kept before vs refl in
-    let first : IsFresh before (session.opened + 1) = s.fresh (session.opened + 1) (omega (arith, s.last)) in
-    let number : session.opened + 1 ≡ opened now = ap (λ n. n + 1) s.last ∙ sym more in
-    let bytes : heard now (session.opened + 1) ≡ [] = heard-kept before vs (session.opened + 1) refl ∙ first.unheard in
-    let count : asked_on now (session.opened + 1) ≡ 0 = asked-kept before vs (session.opened + 1) refl ∙ first.unasked in
-    let here : Knows now (session.opened + 1) (Some decoder) = (
-      record {
-        one = λ link. ap (λ n. open_of n (closed now) link) (sym number) ∙ ap (λ l. open_of (session.opened + 1) l link) gone
-            ∙ open_more session.opened (closed before) link first.unclosed (ap (λ n. open_of n (closed before) link) s.last ∙ known.none link);
-        counted = omega (arith, more, known.counted, ap length gone);
-      },
-      subst (λ l. Follows decoder l (asked_on now (session.opened + 1))) (sym bytes) (subst (Follows decoder []) (sym count) f),
-    )
-    in
+-- events of one link
+pub stands_after : (name : List ℕ) (before vs : List Event) (link : ℕ) (session new : Session) → Stands name session before → AllByRecursion (IsOf link) vs
+    → ((other : ℕ) → length session.core.space.links < other → (heard vs other ≡ []) × (arrived_on vs other ≡ 0)) → new.core.space ≡ space_after name (before ++ vs)
+    → Knows (before ++ vs) link (is_open (state_of new.core.space.links link)) (found new link) → ((other : ℕ) → link ≢ other → found new other ≡ found session other)
+    → Stands name new (before ++ vs)
+stands_after name before vs link session new s of_ quiet core here others =
+    let leaves = events_leave name before link vs (subst IsDrained s.core s.drained) of_ in
     record {
-      core = ap (λ n. n.core) is ∙ s.core ∙ sym (space-append before vs name);
-      last = ap (λ n. n.opened) is ∙ number;
-      knows = subst (λ (n : Session). Knows now n.opened n.decoder) (sym is) here;
-      fresh = λ link above. fresh_same before vs link refl refl refl (s.fresh link (omega (arith, above, more)));
+      core = core;
+      drained = subst IsDrained (sym core) leaves.drained;
+      knows = λ other. ⊎_elim
+          (λ same. subst (λ n. Knows (before ++ vs) n (is_open (state_of new.core.space.links n)) (found new n)) same here)
+          (λ apart.
+          let none = others_quiet link other vs apart of_ in
+          let same : link_at new.core.space.links other ≡ link_at session.core.space.links other =
+          ap (λ (x : Space). link_at x.links other) core ∙ leaves.others other apart ∙ ap (λ (x : Space). link_at x.links other) (sym s.core)
+          in
+          subst (λ o. Knows (before ++ vs) other (is_open (state_or_never o)) (found new other)) (sym same)
+          (subst (Knows (before ++ vs) other (is_open (state_of session.core.space.links other))) (sym (others other apart))
+          (knows_same before (before ++ vs) other (is_open (state_of session.core.space.links other)) (found session other) (heard_kept before vs other none) (arrived_kept before vs other none) (s.knows other))))
+          (cases_eq link other);
+      fresh = λ other above.
+          let as_many : length new.core.space.links ≡ length session.core.space.links = ap (λ (x : Space). length x.links) core ∙ leaves.opened ∙ ap (λ (x : Space). length x.links) (sym s.core) in
+          let past : length session.core.space.links < other = omega (arith, as_many, above) in
+          fresh_kept before vs other (quiet other past) (s.fresh other past);
     }
 
--- events bring and ask nothing on the other links
-abbrev pub IsOnly : ℕ → List Event → Type 0
-IsOnly link vs = (other : ℕ) → (link == other) ≡ false → (heard vs other ≡ []) × (asked_on vs other ≡ 0)
+module _ (name : List ℕ) (before : List Event) (session : Session) (s : Stands name session before) where
+  -- whether a link is open is told from the space
+  open_is : (link : ℕ) (b : Bool) → is_open (state_of session.core.space.links link) ≡ b → is_open_after name before link ≡ b
+  open_is link b e = ap (λ (x : Space). is_open (state_of x.links link)) (sym s.core) ∙ e
 
-module _ (name : List ℕ) (before vs : List Event) (session new : Session) (decoder : Decoding) (space : Space) (some : session.decoder ≡ Some decoder)
-    (o : opened vs ≡ 0) (only : IsOnly session.opened vs) (does : space ≡ after_all session.core (requests_of vs)) (s : Stands name session before) where
-  -- what is known before
-  known : Knows before session.opened (Some decoder)
-  known = subst (Knows before session.opened) some s.knows
+  module _ (link : ℕ) where
+    -- a link with a decoder
+    module _ (d : Decoding) (some : found session link ≡ Some d) where
+      pub open_some_of : is_open (state_of session.core.space.links link) ≡ true
+      open_some_of = (knows_some before link (is_open (state_of session.core.space.links link)) (found session link) d some (s.knows link)).0
 
-  -- the space behind the events
-  core_of : space ≡ space_after name (before ++ vs)
-  core_of = does ∙ ap (λ c. after_all c (requests_of vs)) s.core ∙ sym (space-append before vs name)
+      pub follows_of : Follows d (heard before link) (arrived_on before link)
+      follows_of = (knows_some before link (is_open (state_of session.core.space.links link)) (found session link) d some (s.knows link)).1
 
-  -- a link that isn't opened yet is another
-  other_of : (link : ℕ) → opened (before ++ vs) < link → (session.opened == link) ≡ false
-  other_of link above = apart session.opened link (λ e. omega (arith, e, above, opened-kept before vs o, s.last))
+      -- a number above the last is another
+      others_above : (vs : List Event) → AllByRecursion (IsOf link) vs → (other : ℕ) → length session.core.space.links < other → (heard vs other ≡ []) × (arrived_on vs other ≡ 0)
+      others_above vs of_ other above =
+          let (l, at, on) = open_some session.core.space.links link open_some_of in
+          let within = some_within session.core.space.links link l at in
+          others_quiet link other vs (λ e. omega (arith, e, above, within)) of_
 
-  -- an open link closes
-  pub stands_closes : closed vs ≡ session.opened ∷ [] → new ≡ record session { core = space; decoder = None } → Stands name new (before ++ vs)
-  unfolding open_of
-  stands_closes c is =
-      let now : List Event = before ++ vs in
-      let kept : opened now ≡ opened before = opened-kept before vs o in
-      let gone : closed now ≡ closed before ++ session.opened ∷ [] = closed-append before vs ∙ ap (λ l. closed before ++ l) c in
-      let here : Knows now session.opened None = record {
-        none = λ link. ap (λ n. open_of n (closed now) link) kept ∙ ap (λ l. open_of (opened before) l link) gone
-            ∙ open_less (opened before) (closed before) session.opened link (known.0.one link);
-        counted = omega (arith, kept, known.0.counted, ap length gone, length-append (closed before) (session.opened ∷ []));
-      }
-      in
-      record {
-        core = ap (λ n. n.core) is ∙ core_of;
-        last = ap (λ n. n.opened) is ∙ s.last ∙ sym kept;
-        knows = subst (λ (n : Session). Knows now n.opened n.decoder) (sym is) here;
-        fresh = λ link above.
-            let old = s.fresh link (omega (arith, above, kept)) in
-            let apart_of = other_of link above in
+    -- a link without one
+    closed_of : found session link ≡ None → is_open (state_of session.core.space.links link) ≡ false
+    closed_of none = knows_none before link (is_open (state_of session.core.space.links link)) (found session link) none (s.knows link)
+
+  -- an entry of a link that isn't open
+  module _ (link : ℕ) (entry : Entry) (new : Session) (written : List ℕ) (none : found session link ≡ None) (taken : is_open_after name before link ≡ false → IsTaken name before entry (Closed link ∷ []))
+      (line : written ≡ closed_line link) (same : new.core ≡ session.core) (gone : found new link ≡ None) (others : (other : ℕ) → link ≢ other → found new other ≡ found session other) where
+    pub answers_closed : Answers name before entry written new
+    answers_closed =
+        let off = closed_of link none in
+        let links : is_open (state_of new.core.space.links link) ≡ false = ap (λ (x : State). is_open (state_of x.space.links link)) same ∙ off in
+        record {
+          events = Closed link ∷ [];
+          taken = taken (open_is link false off);
+          answer = line ∙ sym (append-nil (closed_line link));
+          stands = stands_after name before (Closed link ∷ []) link session new s (refl, tt) (λ other above. (refl, refl))
+              (ap (λ (x : State). x.space) same ∙ s.core ∙ sym (space-push name before (Closed link)))
+              (subst (λ b. Knows (before ++ Closed link ∷ []) link b (found new link)) (sym links) gone) others;
+        }
+
+  pub answers_unheard : (link : ℕ) (bytes : List ℕ) (new : Session) (written : List ℕ) → found session link ≡ None → written ≡ closed_line link → new.core ≡ session.core → found new link ≡ None
+      → ((other : ℕ) → link ≢ other → found new other ≡ found session other) → Answers name before (Bytes link bytes) written new
+  answers_unheard link bytes new written none line same gone others =
+      answers_closed link (Bytes link bytes) new written none
+      (λ off. subst (λ b. MatchBool b (IsHeard name before link bytes (Closed link ∷ [])) (◌≡◌ {A = List Event} (Closed link ∷ []) (Closed link ∷ []))) (sym off) refl) line same gone others
+
+  pub answers_unended : (link : ℕ) (new : Session) (written : List ℕ) → found session link ≡ None → written ≡ closed_line link → new.core ≡ session.core → found new link ≡ None
+      → ((other : ℕ) → link ≢ other → found new other ≡ found session other) → Answers name before (End link) written new
+  answers_unended link new written none line same gone others =
+      answers_closed link (End link) new written none
+      (λ off. subst (λ b. MatchBool b (IsEnded before link (Closed link ∷ [])) (◌≡◌ {A = List Event} (Closed link ∷ []) (Closed link ∷ []))) (sym off) refl) line same gone others
+
+  -- the space behind the bytes of a delivery, before its messages
+  pub heard_space : (link : ℕ) (bytes : List ℕ) → session.core.space ≡ space_after name (before ++ Hears link bytes ∷ [])
+  heard_space link bytes = s.core ∙ sym (space-push name before (Hears link bytes))
+
+  -- a delivery on an open link
+  module _ (link : ℕ) (bytes : List ℕ) (new : Session) (written : List ℕ) (d next : Decoding) (some : found session link ≡ Some d)
+      (all : HearsAll name (before ++ Hears link bytes ∷ []) link (arrived_on before link) (heard before link) bytes new.core.space next written)
+      (others : (other : ℕ) → link ≢ other → found new other ≡ found session other) where
+    -- what it is taken as
+    vs : List Event
+    vs = Hears link bytes ∷ all.events
+
+    of_link : AllByRecursion (IsOf link) (Hears link bytes ∷ all.events)
+    of_link = (refl, arrived_of name (before ++ Hears link bytes ∷ []) link all.taken.front all.taken.rest (drop (arrived_on before link) all.taken.messages) all.events all.taken.taken)
+
+    bytes_more : heard (before ++ Hears link bytes ∷ all.events) link ≡ heard before link ++ bytes
+    bytes_more =
+        let quiet = arrived_quiet name (before ++ Hears link bytes ∷ []) link link all.taken.front all.taken.rest (drop (arrived_on before link) all.taken.messages) all.events all.taken.taken in
+        heard-append before (Hears link bytes ∷ all.events) link
+        ∙ ap (λ l. heard before link ++ (cond (link == link) bytes [] ++ l)) quiet
+        ∙ ap (λ b. heard before link ++ (cond b bytes [] ++ [])) (eq-eqb link link refl) ∙ ap (λ l. heard before link ++ l) (append-nil bytes)
+
+    messages_more : arrived_on (before ++ Hears link bytes ∷ all.events) link ≡ arrived_on before link + arrived_on all.events link
+    messages_more = let one = arrived-cons (Hears link bytes) all.events link in arrived-append before (Hears link bytes ∷ all.events) link ∙ omega (arith, one)
+
+    pub answers_heard : Knows (before ++ Hears link bytes ∷ all.events) link (is_open (state_of new.core.space.links link)) (found new link) → Answers name before (Bytes link bytes) written new
+    answers_heard here = record {
+      events = Hears link bytes ∷ all.events;
+      taken = subst (λ b. MatchBool b (IsHeard name before link bytes (Hears link bytes ∷ all.events)) (Hears link bytes ∷ all.events ≡ Closed link ∷ []))
+          (sym (open_is link true (open_some_of link d some))) (all.events, refl, all.taken);
+      answer = all.written;
+      stands = stands_after name before (Hears link bytes ∷ all.events) link session new s of_link (others_above link d some (Hears link bytes ∷ all.events) of_link)
+          (all.does ∙ ap (space_after name) (append_assoc before (Hears link bytes ∷ []) all.events)) here others;
+    }
+
+    -- the link goes on
+    pub answers_on : is_open (state_of new.core.space.links link) ≡ true → found new link ≡ Some next → Answers name before (Bytes link bytes) written new
+    answers_on on here =
+        answers_heard (subst (λ b. Knows (before ++ Hears link bytes ∷ all.events) link b (found new link)) (sym on)
+        (subst (Knows (before ++ Hears link bytes ∷ all.events) link true) (sym here)
+        (subst (λ l. Follows next l (arrived_on (before ++ Hears link bytes ∷ all.events) link)) (sym bytes_more) (subst (Follows next (heard before link ++ bytes)) (sym messages_more) (all.follows on)))))
+
+    -- or it isn't open any more
+    pub answers_off : is_open (state_of new.core.space.links link) ≡ false → found new link ≡ None → Answers name before (Bytes link bytes) written new
+    answers_off off gone = answers_heard (subst (λ b. Knows (before ++ Hears link bytes ∷ all.events) link b (found new link)) (sym off) gone)
+
+  -- the end of an open link, as one event
+  module _ (link : ℕ) (new : Session) (written : List ℕ) (d : Decoding) (some : found session link ≡ Some d)
+      (does : new.core.space ≡ run_from session.core.space (calls_with session.core.space (Some (call.End link)))) (gone : found new link ≡ None)
+      (others : (other : ℕ) → link ≢ other → found new other ≡ found session other) where
+    ended : (event : Event) → IsEnded before link (event ∷ []) → IsOf link event → calls_at session.core.space event ≡ calls_with session.core.space (Some (call.End link))
+        → written ≡ event_lines session.core.space event → Answers name before (End link) written new
+    ended event taken of_ calls line =
+        let space : new.core.space ≡ space_after name (before ++ event ∷ []) =
+        does ∙ ap (run_from session.core.space) (sym calls) ∙ ap (λ x. run_from x (calls_at x event)) s.core ∙ sym (space-push name before event)
+        in
+        let off : is_open (state_of new.core.space.links link) ≡ false =
+        ap (λ (x : Space). is_open (state_of x.links link)) does ∙ end_closes session.core.space link s.drained (open_some_of link d some)
+        in
+        record {
+          events = event ∷ [];
+          taken = subst (λ b. MatchBool b (IsEnded before link (event ∷ [])) (event ∷ [] ≡ Closed link ∷ [])) (sym (open_is link true (open_some_of link d some))) taken;
+          answer = line ∙ ap (λ x. event_lines x event) s.core ∙ sym (append-nil (answer name before event));
+          stands = stands_after name before (event ∷ []) link session new s (of_, tt) (others_above link d some (event ∷ []) (of_, tt)) space
+              (subst (λ b. Knows (before ++ event ∷ []) link b (found new link)) (sym off) gone) others;
+        }
+
+    pub answers_ended : (reason : Option Reason) → EndsAs link (heard before link) reason
+        → written ≡ reply_lines (reason_in reason) (step session.core.space (call.End link)).space (step session.core.space (call.End link)).reply
+        → Answers name before (End link) written new
+    answers_ended None (messages, stream) line = ended (Ends link) (inl (messages, stream, refl)) refl refl line
+    answers_ended (Some reason) (start, inside, is) line =
+        ended (Stops link (Cut start)) (inr (start, inside, refl)) refl refl
+        (line ∙ ap (λ r. reply_lines (reason_in (Some r)) (step session.core.space (call.End link)).space (step session.core.space (call.End link)).reply) is)
+
+  -- a link is asked for
+  module _ (new : Session) (written : List ℕ) (does : new.core.space ≡ run_from session.core.space (calls_with session.core.space (Some call.NewLink)))
+      (line : written ≡ reply_lines (reason_in None) (step session.core.space call.NewLink).space (step session.core.space call.NewLink).reply) where
+    space_opened : new.core.space ≡ space_after name (before ++ Opens ∷ [])
+    space_opened = does ∙ ap (λ x. run_from x (calls_at x Opens)) s.core ∙ sym (space-push name before Opens)
+
+    written_opened : written ≡ answers_after name before (Opens ∷ [])
+    written_opened = line ∙ ap (λ x. event_lines x Opens) s.core ∙ sym (append-nil (answer name before Opens))
+
+    quiet_opened : (link : ℕ) → (heard (Opens ∷ []) link ≡ []) × (arrived_on (Opens ∷ []) link ≡ 0)
+    quiet_opened link = (refl, refl)
+
+    kept : (link : ℕ) (b : Bool) (o : Option Decoding) → Knows before link b o → Knows (before ++ Opens ∷ []) link b o
+    kept link b o k = knows_same before (before ++ Opens ∷ []) link b o (heard_kept before (Opens ∷ []) link (quiet_opened link)) (arrived_kept before (Opens ∷ []) link (quiet_opened link)) k
+
+    -- none opens
+    pub answers_full : opened_in (step session.core.space call.NewLink).reply ≡ None → ((link : ℕ) → found new link ≡ found session link) → Answers name before NewLink written new
+    answers_full none others = by_full (is_full session.core.space.links) refl
+      where
+        still : is_full session.core.space.links ≡ true → new.core.space ≡ session.core.space
+        still full = does ∙ (opens_not session.core.space full).0
+
+        by_full : (b : Bool) → is_full session.core.space.links ≡ b → Answers name before NewLink written new
+        by_full false e = absurd (none_some (length session.core.space.links + 1) (sym none ∙ (opens session.core.space e).1))
+        by_full true e = record {
+          events = Opens ∷ [];
+          taken = refl;
+          answer = written_opened;
+          stands = record {
+            core = space_opened;
+            drained = subst IsDrained (sym (still e)) s.drained;
+            knows = λ link. subst (λ (x : Space). Knows (before ++ Opens ∷ []) link (is_open (state_of x.links link)) (found new link)) (sym (still e))
+                (subst (Knows (before ++ Opens ∷ []) link (is_open (state_of session.core.space.links link))) (sym (others link))
+                (kept link (is_open (state_of session.core.space.links link)) (found session link) (s.knows link)));
+            fresh = λ link above. fresh_kept before (Opens ∷ []) link (quiet_opened link) (s.fresh link (subst (λ (x : Space). length x.links < link) (still e) above));
+          };
+        }
+
+    -- the next one opens
+    pub answers_opened : (link : ℕ) (d : Decoding) → opened_in (step session.core.space call.NewLink).reply ≡ Some link → Follows d [] 0 → found new link ≡ Some d
+        → ((other : ℕ) → link ≢ other → found new other ≡ found session other) → Answers name before NewLink written new
+    answers_opened link d some f here others = by_full (is_full session.core.space.links) refl
+      where
+        links : List Link
+        links = session.core.space.links
+
+        by_full : (b : Bool) → is_full session.core.space.links ≡ b → Answers name before NewLink written new
+        by_full true e = absurd (none_some link (sym (opens_not session.core.space e).1 ∙ some))
+        by_full false e =
+            let more : new.core.space ≡ with_links session.core.space (session.core.space.links ++ new_link ∷ []) = does ∙ (opens session.core.space e).0 in
+            let number : link ≡ length session.core.space.links + 1 = some_same link (length session.core.space.links + 1) (sym some ∙ (opens session.core.space e).1) in
+            let at_link : link_at new.core.space.links link ≡ Some new_link =
+            ap (λ (x : Space). link_at x.links link) more ∙ ap (link_at (session.core.space.links ++ new_link ∷ [])) number ∙ at_opened session.core.space.links
+            in
+            let at_other : (other : ℕ) → link ≢ other → link_at new.core.space.links other ≡ link_at session.core.space.links other =
+            λ other apart. ap (λ (x : Space). link_at x.links other) more ∙ at_before session.core.space.links other (λ e. apart (number ∙ sym e))
+            in
+            let first = s.fresh link (omega (arith, number)) in
             record {
-              unclosed = ap (list_any (λ other. other == link)) gone ∙ list_any-append (λ other. other == link) (closed before) (session.opened ∷ [])
-                  ∙ ap (λ x. x || ((session.opened == link) || false)) old.unclosed ∙ ap (λ x. x || false) apart_of;
-              unheard = heard-kept before vs link (only link apart_of).0 ∙ old.unheard;
-              unasked = asked-kept before vs link (only link apart_of).1 ∙ old.unasked;
-            };
-      }
+              events = Opens ∷ [];
+              taken = refl;
+              answer = written_opened;
+              stands = record {
+                core = space_opened;
+                drained = λ other. ⊎_elim (λ same. ap (pending_of new.core.space.links) (sym same) ∙ ap pending_or_none at_link) (λ apart. ap pending_or_none (at_other other apart) ∙ s.drained other)
+                    (cases_eq link other);
+                knows = λ other. ⊎_elim
+                    (λ same. subst (λ n. Knows (before ++ Opens ∷ []) n (is_open (state_of new.core.space.links n)) (found new n)) same
+                    (subst (λ o. Knows (before ++ Opens ∷ []) link (is_open (state_or_never o)) (found new link)) (sym at_link)
+                    (subst (Knows (before ++ Opens ∷ []) link true) (sym here)
+                    (subst (λ l. Follows d l (arrived_on (before ++ Opens ∷ []) link)) (sym (heard_kept before (Opens ∷ []) link (quiet_opened link) ∙ first.unheard))
+                    (subst (Follows d []) (sym (arrived_kept before (Opens ∷ []) link (quiet_opened link) ∙ first.unmet)) f)))))
+                    (λ apart. subst (λ o. Knows (before ++ Opens ∷ []) other (is_open (state_or_never o)) (found new other)) (sym (at_other other apart))
+                    (subst (Knows (before ++ Opens ∷ []) other (is_open (state_of session.core.space.links other))) (sym (others other apart))
+                    (kept other (is_open (state_of session.core.space.links other)) (found session other) (s.knows other))))
+                    (cases_eq link other);
+                fresh = λ other above.
+                    let as_many : length new.core.space.links ≡ length session.core.space.links + 1 = ap (λ (x : Space). length x.links) more ∙ length-append session.core.space.links (new_link ∷ []) in
+                    fresh_kept before (Opens ∷ []) other (quiet_opened other) (s.fresh other (omega (arith, as_many, above)));
+              };
+            }
 
-  -- an open link goes on
-  pub stands_goes_on : (next : Decoding) → closed vs ≡ []
-      → Follows next (heard before session.opened ++ heard vs session.opened) (asked_on before session.opened + asked_on vs session.opened)
-      → new ≡ record session { core = space; decoder = Some next } → Stands name new (before ++ vs)
-  stands_goes_on next c f is =
-      let now : List Event = before ++ vs in
-      let kept : opened now ≡ opened before = opened-kept before vs o in
-      let gone : closed now ≡ closed before = closed-kept before vs c in
-      let here : Knows now session.opened (Some next) = (
-        one_same before now session.opened kept gone known.0,
-        subst (λ l. Follows next l (asked_on now session.opened)) (sym (heard-append before vs session.opened))
-            (subst (Follows next (heard before session.opened ++ heard vs session.opened)) (sym (asked-append before vs session.opened)) f),
-      )
-      in
-      record {
-        core = ap (λ n. n.core) is ∙ core_of;
-        last = ap (λ n. n.opened) is ∙ s.last ∙ sym kept;
-        knows = subst (λ (n : Session). Knows now n.opened n.decoder) (sym is) here;
-        fresh = λ link above.
-            let apart_of = other_of link above in
-            fresh_same before vs link c (only link apart_of).0 (only link apart_of).1 (s.fresh link (omega (arith, above, kept)));
-      }
+-- a session in which nothing happened
+pub stands_first : (name : List ℕ) (session : Session) → session.core.space ≡ space_after name [] → ((link : ℕ) → found session link ≡ None) → Stands name session []
+stands_first name session core none = record {
+  core = core;
+  drained = λ link. ap (λ (x : Space). pending_of x.links link) core ∙ empty_pending link;
+  knows = λ link. subst (λ (x : Space). Knows [] link (is_open (state_of x.links link)) (found session link)) (sym core)
+      (subst (λ b. Knows [] link b (found session link)) (sym (empty_state link)) (none link));
+  fresh = λ link above. record { unheard = refl; unmet = refl };
+}
+  where
+    empty_at : (link : ℕ) → link_at [] link ≡ None
+    empty_at link = elim (Rattle.std.specs.Prelude.nat_le 1 link) as (λ b. ◌≡◌ {A = Option Link} (cond b None None) None) [ true ↦ refl | false ↦ refl ]
 
--- what a delivery is taken as
-abbrev pub delivered : ℕ → List ℕ → List FirstRequest → Option Why → List Event
-delivered link bytes requests stop = Hears link bytes ∷ (map (Asks link) requests ++ stops_of link stop)
+    empty_pending : (link : ℕ) → pending_of [] link ≡ []
+    empty_pending link = ap pending_or_none (empty_at link)
 
-module _ (link : ℕ) where
-  -- requests open and close nothing and bring no bytes
-  asks_opened : (requests : List FirstRequest) → opened (map (Asks link) requests) ≡ 0
-  asks_opened [] = refl
-  asks_opened (r ∷ requests) =
-      let more : opened (map (Asks link) (r ∷ requests)) ≡ 0 + opened (map (Asks link) requests) = sum_by-cons (λ x. cond (is_opening x) 1 0) (Asks link r) (map (Asks link) requests) in
-      omega (arith, more, asks_opened requests)
+    empty_state : (link : ℕ) → is_open (state_of [] link) ≡ false
+    empty_state link = ap (λ o. is_open (state_or_never o)) (empty_at link)
 
-  asks_closed : (requests : List FirstRequest) → closed (map (Asks link) requests) ≡ []
-  asks_closed [] = refl
-  asks_closed (r ∷ requests) = asks_closed requests
-
-  asks_heard : (other : ℕ) (requests : List FirstRequest) → heard (map (Asks link) requests) other ≡ []
-  asks_heard other [] = refl
-  asks_heard other (r ∷ requests) = asks_heard other requests
-
-  asks_asked : (other : ℕ) (requests : List FirstRequest) → asked_on (map (Asks link) requests) other ≡ cond (link == other) (length requests) 0
-  asks_asked other [] = elim (link == other) as (λ b. ◌≡◌ {A = ℕ} 0 (cond b 0 0)) [ true ↦ refl | false ↦ refl ]
-  asks_asked other (r ∷ requests) =
-      sum_by-cons (λ x. cond (asks_on other x) 1 0) (Asks link r) (map (Asks link) requests) ∙ ap (λ n. cond (link == other) 1 0 + n) (asks_asked other requests)
-      ∙ elim (link == other) as (λ b. ◌≡◌ {A = ℕ} (cond b 1 0 + cond b (length requests) 0) (cond b (length (r ∷ requests)) 0)) [ true ↦ omega arith | false ↦ refl ]
-
-  asks_requests : (requests : List FirstRequest) → requests_of (map (Asks link) requests) ≡ requests
-  asks_requests [] = refl
-  asks_requests (r ∷ requests) = ap (λ l. r ∷ l) (asks_requests requests)
-
-  -- a stop brings nothing and asks nothing
-  stop_opened : (stop : Option Why) → opened (stops_of link stop) ≡ 0
-  stop_opened None = refl
-  stop_opened (Some why) = refl
-
-  stop_heard : (other : ℕ) (stop : Option Why) → heard (stops_of link stop) other ≡ []
-  stop_heard other None = refl
-  stop_heard other (Some why) = refl
-
-  stop_asked : (other : ℕ) (stop : Option Why) → asked_on (stops_of link stop) other ≡ 0
-  stop_asked other None = refl
-  stop_asked other (Some why) = refl
-
-  stop_requests : (stop : Option Why) → requests_of (stops_of link stop) ≡ []
-  stop_requests None = refl
-  stop_requests (Some why) = refl
-
-  module _ (bytes : List ℕ) (requests : List FirstRequest) (stop : Option Why) where
-    -- what a delivery does to what came before
-    pub delivered_opened : opened (delivered link bytes requests stop) ≡ 0
-    delivered_opened =
-        let more : opened (delivered link bytes requests stop) ≡ 0 + opened (map (Asks link) requests ++ stops_of link stop) =
-        sum_by-cons (λ x. cond (is_opening x) 1 0) (Hears link bytes) (map (Asks link) requests ++ stops_of link stop)
-        in
-        omega (arith, more, opened-append (map (Asks link) requests) (stops_of link stop), asks_opened requests, stop_opened stop)
-
-    pub delivered_closed : closed (delivered link bytes requests stop) ≡ closed (stops_of link stop)
-    delivered_closed = closed-append (map (Asks link) requests) (stops_of link stop) ∙ ap (λ l. l ++ closed (stops_of link stop)) (asks_closed requests)
-
-    pub delivered_requests : requests_of (delivered link bytes requests stop) ≡ requests
-    delivered_requests =
-        flat_map-append asked_by (map (Asks link) requests) (stops_of link stop)
-        ∙ ap (λ l. l ++ requests_of (stops_of link stop)) (asks_requests requests) ∙ ap (λ l. requests ++ l) (stop_requests stop) ∙ append-nil requests
-
-    pub delivered_heard : (other : ℕ) → heard (delivered link bytes requests stop) other ≡ cond (link == other) bytes []
-    delivered_heard other =
-        ap (λ l. cond (link == other) bytes [] ++ l)
-        (heard-append (map (Asks link) requests) (stops_of link stop) other ∙ ap (λ l. l ++ heard (stops_of link stop) other) (asks_heard other requests) ∙ stop_heard other stop)
-        ∙ append-nil (cond (link == other) bytes [])
-
-    pub delivered_asked : (other : ℕ) → asked_on (delivered link bytes requests stop) other ≡ cond (link == other) (length requests) 0
-    delivered_asked other =
-        let more : asked_on (delivered link bytes requests stop) other ≡ 0 + asked_on (map (Asks link) requests ++ stops_of link stop) other =
-        sum_by-cons (λ x. cond (asks_on other x) 1 0) (Hears link bytes) (map (Asks link) requests ++ stops_of link stop)
-        in
-        let same : asked_on (delivered link bytes requests stop) other ≡ asked_on (map (Asks link) requests) other =
-        omega (arith, more, asked-append (map (Asks link) requests) (stops_of link stop) other, stop_asked other stop)
-        in
-        same ∙ asks_asked other requests
-
-    pub delivered_only : IsOnly link (delivered link bytes requests stop)
-    delivered_only other off = (delivered_heard other ∙ ap (λ b. cond b bytes []) off, delivered_asked other ∙ ap (λ b. cond b (length requests) 0) off)
+-- the end of a link's bytes is a stop only inside a message
+pub cut_inside : (d new : Decoding) (bytes : List ℕ) (came : ℕ) (at : stop.Stop) (why : Why) → Follows d bytes came → decoding.EndStands d (Err at) new → why_of at ≡ Some why
+    → (start : ℕ) × IsInside bytes start × (why ≡ Cut start)
+cut_inside d new bytes came (stop.TheVariants.Syntax place) why f e is = absurd (none_some (stop.TheVariants.Syntax place) (sym f.sound ∙ (e bytes came f.stands).1))
+cut_inside d new bytes came (stop.TheVariants.TooLong start) why f e is = absurd (none_some (stop.TheVariants.TooLong start) (sym f.sound ∙ (e bytes came f.stands).1))
+cut_inside d new bytes came stop.TheVariants.NoMemory why f e is = absurd e
+cut_inside d new bytes came (stop.TheVariants.Cut start) why f e is =
+    elim (e bytes came f.stands).1 as (λ _. (start : ℕ) × IsInside bytes start × (why ≡ Cut start)) [
+      | inl met ↦ absurd (none_some (stop.TheVariants.Cut start) (sym f.sound ∙ met))
+      | inr inside ↦ (start, inside, sym (some_same (Cut start) why is))
+    ]

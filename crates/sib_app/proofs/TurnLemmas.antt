@@ -6,8 +6,8 @@ use Rattle.sib_io.specs.Causes.{Rose}
 use Rattle.sib_script.proofs.ScriptLaws.{left_begins, left_splits}
 use Rattle.sib_io.proofs.KnownLemmas.{appends_kept, part_kept}
 use Rattle.sib_script.specs.Reading.{fresh}
-use Rattle.sib_app.specs.Output.{IsOutput, answers, last_line, space_after}
-use Rattle.sib_app.specs.Ending.{Outside, Ended, Outcome, GivesPart, GivesAnswers}
+use Rattle.sib_app.specs.Output.{IsOutput, answers, last_line, fault_line, space_after}
+use Rattle.sib_app.specs.Ending.{Outside, Ended, Outcome, GivesPart, GivesAnswers, GivesFault}
 use Rattle.sib_app.specs.Session.{Stands, Replays, Stops, Finishes, GivesFront, GivesEnd}
 use Rattle.sib_app.specs.Turn.{Turns}
 use Rattle.sib_app.specs.declared.ending.TheConstants.{INPUT_LIMIT}
@@ -76,7 +76,7 @@ module _ (name : List ℕ) (old now next : Outside) (read : List ℕ) (left : �
 
       outcome : (e : Ending) → Finishes name old.given next.given now.write_faults next.write_faults read e → Outcome name old next read e
       outcome Done f = (below, end, f)
-      outcome BadScript f = (below, f.0, f.1, inr end, f.2)
+      outcome BadScript f = (below, inr end, f.0, f.1)
       outcome WriteFault f = (rose_earlier old.write_faults now.write_faults next.write_faults t.write_later f.0, part_of_end name old.given next.given read next.left end f.1)
       outcome NoMemory f = part_of_end name old.given next.given read next.left end f
       outcome ReadFault f = absurd f
@@ -116,7 +116,7 @@ module _ (name : List ℕ) (old now next : Outside) (read : List ℕ) (left : �
 
       outcome : (e : Ending) → Stops name old.given next.given now.write_faults next.write_faults (read ++ piece) e → Outcome name old next (read ++ piece) e
       outcome Done s = absurd s
-      outcome BadScript s = (below, s.1, s.2, inl s.0, s.3)
+      outcome BadScript s = (below, inl s.0, s.1, s.2)
       outcome WriteFault s = (rose_earlier old.write_faults now.write_faults next.write_faults t.write_later s.0, part_of_front name old.given next.given (read ++ piece) next.left s.1)
       outcome NoMemory s = part_of_front name old.given next.given (read ++ piece) next.left s
       outcome ReadFault s = absurd s
@@ -135,8 +135,8 @@ module _ (name : List ℕ) (old now next : Outside) (read : List ℕ) (left : �
   }
 
 -- a replay that has read nothing
-pub turns_start : (name : List ℕ) (now : Outside) (replay : Replay) → replay.reader ≡ fresh → Stands name replay.session [] → Turns name now now [] INPUT_LIMIT replay
-turns_start name now replay is stands = record {
+pub turns_start : (name : List ℕ) (now : Outside) (replay : Replay) → replay.reader ≡ fresh → Stands name replay.session [] → replay.session.core.count ≡ 0 → Turns name now now [] INPUT_LIMIT replay
+turns_start name now replay is stands none = record {
   consumed = Consumes-nil now.left;
   read_later = omega arith;
   write_later = omega arith;
@@ -152,6 +152,7 @@ turns_start name now replay is stands = record {
     taken = refl;
     told = refl;
     stands = stands;
+    counted = omega (arith, none);
     given = Appends-nil now.given;
   });
 }
@@ -181,6 +182,18 @@ module _ (name : List ℕ) (old mid next : Outside) where
         given = appends_kept old.given mid.given next.given (answers name g.events) g.given kept;
       }
 
+      faulty : (rest : List ℕ) → GivesFault name old.given mid.given e.read rest → GivesFault name old.given next.given e.read rest
+      faulty rest g = record {
+        entries = g.entries;
+        events = g.events;
+        place = g.place;
+        splits = g.splits;
+        some = g.some;
+        at = g.at;
+        taken = g.taken;
+        given = appends_kept old.given mid.given next.given (answers name g.events ++ fault_line g.place) g.given kept;
+      }
+
       part : GivesPart name old.given mid.given e.read mid.left → GivesPart name old.given next.given e.read next.left
       part p more output l o = part_kept old.given mid.given next.given output (p more output (sym left ∙ l) o) kept
 
@@ -196,8 +209,8 @@ module _ (name : List ℕ) (old mid next : Outside) where
           given = appends_kept old.given mid.given next.given (answers name g.events ++ last_line (space_after name g.events)) g.given kept;
         },
       )
-      outcome BadScript (below, rest, some, inl dead, g) = (below, rest, some, inl dead, answered rest g)
-      outcome BadScript (below, rest, some, inr at_end, g) = (below, rest, some, inr (end at_end), answered rest g)
+      outcome BadScript (below, inl dead, rest, g) = (below, inl dead, rest, faulty rest g)
+      outcome BadScript (below, inr at_end, rest, g) = (below, inr (end at_end), rest, faulty rest g)
       outcome ReadFault (below, rose, begins, rest, g) = (below, omega (arith, rose, reads), begins, rest, answered rest g)
       outcome WriteFault (rose, p) = (omega (arith, rose, writes), part p)
       outcome NoMemory p = part p

@@ -2,11 +2,11 @@
 use Rattle.std.specs.Prelude.{◌≡◌, ℕ, ◌≤◌, ◌<◌, ◌⊎◌, List, [], ◌∷◌, ◌++◌, length, map, codes, Option, Some, string_bytes, String}
 use Rattle.std.specs.Global.{Global}
 use Rattle.std.specs.Io.KnownBytes.{Appends, Consumes, IsAtEnd}
+use Rattle.m3_terms.specs.Text.{IsText}
 use Rattle.sib_io.specs.Causes.{Rose, AppendsPart}
-use Rattle.first_requests.specs.Requests.{IsIdentifier}
 use Rattle.sib_script.specs.declared.entry.Entry.{Entry}
-use Rattle.sib_script.specs.Script.{IsScript, BeginsScript, Splits}
-use Rattle.sib_app.specs.Output.{Event, AreTaken, space_after, answers, last_line, IsOutput}
+use Rattle.sib_script.specs.Script.{IsScript, BeginsScript, Splits, IsPlace}
+use Rattle.sib_app.specs.Output.{Event, AreTaken, space_after, answers, last_line, fault_line, IsOutput}
 use Rattle.sib_app.specs.declared.ending.TheConstants.{INPUT_LIMIT}
 use Rattle.sib_app.specs.declared.ending.Ending.{Ending}
 use Rattle.sib_app.specs.declared.ending.Ending.TheVariants.{Done, BadScript, ReadFault, WriteFault, NoMemory, Spent}
@@ -14,6 +14,12 @@ use Rattle.sib_app.specs.declared.ending.Ending.TheVariants.{Done, BadScript, Re
 -- the bytes of the words
 abbrev pub texts : List (String Global) → List (List ℕ)
 texts words = map string_bytes words
+
+-- an identifier is a text of 1 to 1,024 bytes
+pub record IsIdentifier (bytes : List ℕ) : Type 0 where
+  pub text : IsText bytes
+  pub some : 0 < length bytes
+  pub short : length bytes ≤ 1024
 
 -- the words of a replay in the space of this name
 pub record IsReplay (words : List (List ℕ)) (name : List ℕ) : Type 0 where
@@ -49,6 +55,18 @@ pub record GivesAnswers (name : List ℕ) (old new : Option (List ℕ)) (read re
   pub taken : AreTaken name entries events
   pub given : Appends old new (answers name events)
 
+-- the bytes that were read are no script: the answers to the whole entries in them were given, and then the line with the
+-- place of the fault
+pub record GivesFault (name : List ℕ) (old new : Option (List ℕ)) (read rest : List ℕ) : Type 0 where
+  pub entries : List Entry
+  pub events : List Event
+  pub place : ℕ
+  pub splits : Splits read entries rest
+  pub some : 0 < length rest
+  pub at : IsPlace read place
+  pub taken : AreTaken name entries events
+  pub given : Appends old new (answers name events ++ fault_line place)
+
 -- the bytes that were read are a script, and its answers and the last line were given
 pub record GivesAll (name : List ℕ) (old new : Option (List ℕ)) (read : List ℕ) : Type 0 where
   pub entries : List Entry
@@ -60,8 +78,8 @@ pub record GivesAll (name : List ℕ) (old new : Option (List ℕ)) (read : List
 -- what holds at each ending, of the bytes that were read
 abbrev pub Outcome : List ℕ → Outside → Outside → List ℕ → Ending → Type 0
 Outcome name old new read Done = (length read < INPUT_LIMIT) × IsAtEnd new.left × GivesAll name old.given new.given read
-Outcome name old new read BadScript = (length read < INPUT_LIMIT) × (rest : List ℕ) × (0 < length rest)
-    × (¬ (BeginsScript read) ⊎ IsAtEnd new.left) × GivesAnswers name old.given new.given read rest
+Outcome name old new read BadScript = (length read < INPUT_LIMIT) × (¬ (BeginsScript read) ⊎ IsAtEnd new.left)
+    × (rest : List ℕ) × GivesFault name old.given new.given read rest
 Outcome name old new read ReadFault = (length read < INPUT_LIMIT) × Rose old.read_faults new.read_faults
     × BeginsScript read × (rest : List ℕ) × GivesAnswers name old.given new.given read rest
 Outcome name old new read WriteFault = Rose old.write_faults new.write_faults × GivesPart name old.given new.given read new.left
@@ -81,6 +99,6 @@ pub record Ended (name : List ℕ) (old new : Outside) (ending : Ending) : Type 
 abbrev pub Ends : List ℕ → Outside → Outside → ℕ → Type 0
 Ends name old new status = (ending : Ending) × (status ≡ status_of ending) × Ended name old new ending
 
--- an input is no script, and the answers to the whole entries before its first fault were given
+-- an input is no script: the answers to the whole entries before its first fault were given, and then the line with its place
 abbrev pub GivesBefore : List ℕ → Option (List ℕ) → Option (List ℕ) → List ℕ → Type 0
-GivesBefore name old new input = ((entries : List Entry) → ¬ IsScript input entries) × (rest : List ℕ) × GivesAnswers name old new input rest
+GivesBefore name old new input = ((entries : List Entry) → ¬ IsScript input entries) × (rest : List ℕ) × GivesFault name old new input rest

@@ -1,4 +1,5 @@
 pub mod Output
+pub mod Examples
 pub mod Limits
 pub mod Ending
 pub mod Session

@@ -1,9 +1,15 @@
 ghost use Rattle.std.specs.Prelude.{◌≡◌, List, ℕ};
 ghost use Rattle.sib_script.specs.declared.entry.Entry.{Entry};
-ghost use Rattle.sib_app.specs.Output.{Event, AreTaken, IsOutput};
+ghost use Rattle.session_core.specs.Runs.{run};
+ghost use Rattle.sib_app.specs.Output.{Event, AreTaken, IsOutput, space_after, history};
 
 /// What the entries of a script are taken as is told by them, and what is written for an input by its bytes.
 pub fn outputs_are_told()
     ensures events { (name : List ℕ) (entries : List Entry) (a b : List Event) → AreTaken name entries a → AreTaken name entries b → a ≡ b }
     ensures output { (name input a b : List ℕ) → IsOutput name input a → IsOutput name input b → a ≡ b }
+{}
+
+/// The space behind events is the space behind their calls.
+pub fn spaces_are_run()
+    ensures { (name : List ℕ) (events : List Event) → space_after name events ≡ run name (history name events) }
 {}

@@ -1,6 +1,7 @@
 //! The commands of the broker.
 #![tactic(auto)]
 
+mod acting;
 mod ending;
 mod hearing;
 mod laws;
@@ -13,5 +14,5 @@ mod tests;
 mod why;
 
 pub use ending::{Ending, INPUT_LIMIT};
-pub use laws::outputs_are_told;
+pub use laws::{outputs_are_told, spaces_are_run};
 pub use run::sib_run;

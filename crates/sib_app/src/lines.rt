@@ -1,13 +1,13 @@
 ghost use Rattle.std.specs.Prelude.{◌≡◌, IfOk};
-ghost use Rattle.sib_app.specs.Output.{message_lines, stop_line, closed_line, full_line};
+ghost use Rattle.sib_app.specs.Output.{message_lines, stop_line, closed_line, full_line, fault_line};
 
 use crate::why::Why;
 use m3_terms::{Bytes, NoMemory};
 use std::alloc::Global;
 
-/// The line where no link may open, beside so many that are open.
+/// The line where no link may open, beside so many that count.
 #[tactic(auto, unfolding(crate::specs::Output::full_line))]
-pub fn full(alloc: Global, count: u64) -> Result<Vec<u8>, NoMemory>
+pub fn full(alloc: Global, count: u32) -> Result<Vec<u8>, NoMemory>
     ensures { IfOk result (λ line. line.items ≡ full_line count) }
 {
     Ok(format!(in alloc; "!0 {count} full\n")?.into_bytes())
@@ -41,4 +41,12 @@ pub fn message(alloc: Global, link: u32, message: &Bytes) -> Result<Vec<u8>, NoM
     lines.extend_from_slice(message.as_slice())?;
     lines.push(b'\n')?;
     Ok(lines)
+}
+
+/// The line of an input that is no script, whose fault stands at this place.
+#[tactic(auto, unfolding(crate::specs::Output::fault_line))]
+pub fn fault(alloc: Global, place: u64) -> Result<Vec<u8>, NoMemory>
+    ensures { IfOk result (λ line. line.items ≡ fault_line place) }
+{
+    Ok(format!(in alloc; "? {place}\n")?.into_bytes())
 }

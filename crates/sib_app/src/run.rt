@@ -26,28 +26,31 @@ const BUFFER: usize = 16384;
 /// Runs the command that the words name, over a source and a sink that are lent to it, and answers its exit status.
 ///
 /// The one form of words is `replay SPACE`, where SPACE is a text of 1 to 1,024 bytes. The script of the source is
-/// read piece by piece: beside the graph, no more is kept of it than one entry, the message at hand and the lines of one
-/// entry. All links of a script speak to one space, and one of them at a time is open. The bytes that come on a link are a
-/// stream of messages, in any spelling and cut anywhere; a link that stops passes over the rest of its delivery, and isn't
-/// open from then on. The rows that are read are counted by `steps`; this form reads none. The runtime is for work on
-/// threads, of which there is none yet.
+/// read piece by piece: beside the space, no more is kept of it than one entry, the lines that answer it, and of each open
+/// link the message at hand. All links of a script speak to one space, and up to 256 of them are open at a time. The bytes
+/// that come on a link are a stream of messages, in any spelling and cut anywhere; a link that stops passes over the rest of
+/// its delivery, and isn't open from then on. Each call is followed by what it sends: of each link all that waits, by rising
+/// number, and then why it stops, if it does. The rows that are read are counted by `steps`; no request reads one yet. The
+/// runtime is for work on threads, of which there is none yet.
 ///
 /// | Line | What it answers |
 /// |---|---|
-/// | `<L N`, and N bytes on lines of their own | a request that came on link L: its confirm |
-/// | `!L P form` | the message that begins at byte P of link L, which is no request: the link stops |
+/// | `<L N`, and N bytes on lines of their own | a message that is sent on link L, as the confirm of a request that came on it |
+/// | `!L P request` | the message that begins at byte P of link L, which is no request: the link stops |
 /// | `!L P syntax` | the byte P of link L, with which no message goes on: the link stops |
 /// | `!L P long` | the message that begins at byte P of link L and has more than 4,194,304 bytes: the link stops |
 /// | `!L P cut` | the end of link L inside the message that begins at its byte P |
+/// | `!L 0 overrun` | a link L on which more would wait than 8,388,608 bytes: the link stops |
 /// | `!L 0 closed` | a delivery on link L, or its end, where it isn't open |
-/// | `!0 C full` | a link that would open, where C are open and no more may be |
-/// | `= U T 0` | the end of the script: U updates were accepted, and the graph has T triples |
+/// | `!0 C full` | a link that would open, where C count, which are open or have messages that wait, and no more may open |
+/// | `= U T S` | the end of the script: U updates were accepted, the graph has T triples, and S subscriptions live |
+/// | `? P` | an input that is no script: P is the length of its longest front that begins one |
 ///
 /// | Status | Where |
 /// |---|---|
 /// | 0 | the input was read to its end, is a script, and was answered, with a last line |
 /// | 2 | the words are no form; nothing is read or written |
-/// | 3 | no script begins with the bytes that were read, or the input ended inside an entry; the whole entries before were answered |
+/// | 3 | no script begins with the bytes that were read, or the input ended inside an entry; the whole entries before were answered, and the place of the fault was written |
 /// | 4 | the source failed; the whole entries that were read were answered |
 /// | 5 | the sink failed |
 /// | 6 | the system gave no memory |
@@ -88,7 +91,7 @@ pub fn sib_run<R: Threads + Sync, S: Source, K: Sink, L: Ledger>(
     ensures cost { steps.new ≡ steps.old }
 {
     match space_of(alloc, words) {
-        Ok(Some(name)) => replay(alloc, name, source, sink).status(),
+        Ok(Some(name)) => replay(alloc, rt, name, source, sink, steps).status(),
         Ok(None) => 2,
         Err(_) => Ending::NoMemory.status(),
     }
@@ -112,12 +115,20 @@ fn space_of(alloc: Global, words: &[String]) -> Result<Option<Text>, NoMemory>
 }
 
 // Replays the script that the source has.
-fn replay<S: Source, K: Sink>(alloc: Global, name: Text, source: &mut S, sink: &mut K) -> Ending
-    ensures { Ended name
+fn replay<R: Threads + Sync, S: Source, K: Sink, L: Ledger>(
+    alloc: Global,
+    rt: &R,
+    name: Text,
+    source: &mut S,
+    sink: &mut K,
+    steps: &mut Steps<L>,
+) -> Ending
+    ensures ended { Ended name
         (record { left = S.left source.old; given = K.given sink.old; read_faults = S.faults source.old; write_faults = K.faults sink.old })
         (record { left = S.left source.new; given = K.given sink.new; read_faults = S.faults source.new; write_faults = K.faults sink.new }) result }
+    ensures cost { steps.new ≡ steps.old }
 {
-    let ending = read_all(alloc, name, source, sink);
+    let ending = read_all(alloc, rt, name, source, sink, steps);
     match sink.flush() {
         Ok(()) => ending,
         Err(_) => Ending::WriteFault,
@@ -125,16 +136,33 @@ fn replay<S: Source, K: Sink>(alloc: Global, name: Text, source: &mut S, sink: &
 }
 
 // Reads and answers all that the source has.
-fn read_all<S: Source, K: Sink>(alloc: Global, name: Text, source: &mut S, sink: &mut K) -> Ending
-    ensures { Ended name
+fn read_all<R: Threads + Sync, S: Source, K: Sink, L: Ledger>(
+    alloc: Global,
+    rt: &R,
+    name: Text,
+    source: &mut S,
+    sink: &mut K,
+    steps: &mut Steps<L>,
+) -> Ending
+    ensures ended { Ended name
         (record { left = S.left source.old; given = K.given sink.old; read_faults = S.faults source.old; write_faults = K.faults sink.old })
         (record { left = S.left source.new; given = K.given sink.new; read_faults = S.faults source.new; write_faults = K.faults sink.new }) result }
+    ensures cost { steps.new ≡ steps.old }
 {
     let mut replay = Replay::new(alloc, name);
     let mut buffer = [0u8; BUFFER];
     let mut left = INPUT_LIMIT;
     loop {
-        match turn(alloc, &mut replay, source, sink, &mut buffer, left) {
+        match turn(
+            alloc,
+            rt,
+            &mut replay,
+            source,
+            sink,
+            &mut buffer,
+            left,
+            steps,
+        ) {
             Ok(count) => left -= count,
             Err(ending) => return ending,
         }
@@ -142,17 +170,19 @@ fn read_all<S: Source, K: Sink>(alloc: Global, name: Text, source: &mut S, sink:
 }
 
 // Reads once, at most so many bytes as may still be taken, and answers what was read.
-fn turn<S: Source, K: Sink>(
+fn turn<R: Threads + Sync, S: Source, K: Sink, L: Ledger>(
     alloc: Global,
+    rt: &R,
     replay: &mut Replay,
     source: &mut S,
     sink: &mut K,
     buffer: &mut [u8],
     left: u64,
+    steps: &mut Steps<L>,
 ) -> Result<u64, Ending>
     requires left { 0 < left }
     requires room { 0 < length buffer.old }
-    requires fits { replay.old.reader.taken + left < 2 ^ 63 }
+    requires fits { replay.old.reader.taken + left < 2 ^ 60 }
     requires ongoing { IsOngoing replay.old.reader replay.old.session }
     ensures within { IfOk result (λ count. (0 < count) × (count < left)) }
     ensures ok { (name : List ℕ) (old : Outside) (read : List ℕ)
@@ -162,6 +192,7 @@ fn turn<S: Source, K: Sink>(
     ensures err { (name : List ℕ) (old : Outside) (read : List ℕ)
         → Turns name old (record { left = S.left source.old; given = K.given sink.old; read_faults = S.faults source.old; write_faults = K.faults sink.old }) read left replay.old
         → IfErr result (Ended name old (record { left = S.left source.new; given = K.given sink.new; read_faults = S.faults source.new; write_faults = K.faults sink.new })) }
+    ensures cost { steps.new ≡ steps.old }
 {
     let count = match read_piece(source, buffer, left) {
         Ok(count) => count,
@@ -173,7 +204,7 @@ fn turn<S: Source, K: Sink>(
     if count as u64 == left {
         return Err(Ending::Spent);
     }
-    replay.feed(alloc, sink, buffer.split_at(count).0)?;
+    replay.feed(alloc, rt, sink, buffer.split_at(count).0, steps)?;
     Ok(count as u64)
 }
 

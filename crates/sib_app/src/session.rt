@@ -1,141 +1,158 @@
-ghost use Rattle.std.specs.Prelude.{ℕ, ◌≡◌, ◌+◌, ◌^◌, ◌<◌, ◌==◌, if◌then◌else◌, List, [], length, Option, Some, None, IfOk};
+ghost use Rattle.std.specs.Prelude.{ℕ, ◌≡◌, ◌+◌, ◌*◌, ◌^◌, ◌<◌, ◌≤◌, List, [], length, IfOk, OnOk};
 ghost use Rattle.sib_script.specs.declared.entry.Entry.TheVariants.{NewLink, Bytes as Delivery, End};
 ghost use Rattle.sib_app.specs.Output.{Event, last_line};
 
-use crate::hearing::hear_some;
-use crate::lines::{closed, full, stopped};
-use crate::why::Why;
-use m3_terms::{NoMemory, Text};
-use session_core::Core;
+use crate::acting::act;
+use crate::hearing::{end_of, hear_all, runs};
+use crate::lines::closed;
+use m3_terms::{NoMemory, Steps, Text};
+use session_core::{Call, Core};
 use sib_script::Entry;
 use ssap_decode::Decoder;
 use std::alloc::Global;
+use std::collections::BTreeMap;
+use std::sync::ledger::Ledger;
+use std::thread::Threads;
 
-/// The links of a script, of which at most one is open, and the space behind them.
+/// The links of a script, and the space behind them.
 #[derive(Drop)]
 pub struct Session {
     core: Core,
-    /// How many links were opened, which is the number of the last.
-    opened: u32,
-    /// What reads the bytes of the last link, while it is open.
-    decoder: Option<Decoder>,
+    /// What reads the bytes of each open link.
+    decoders: BTreeMap<u32, Decoder>,
 }
 
 impl Session {
-    ghost use Rattle.sib_app.specs.Session.{Stands, Answers, CanAnswer, IsFollowing, Follows, HearsAll};
+    ghost use Rattle.sib_app.specs.Session.{Stands, Answers, CanAnswer, weight};
 
     /// No link, and a space in which nothing happened.
     pub fn new(alloc: Global, name: Text) -> Session
-        ensures { Stands name result [] }
+        ensures stands { Stands name result [] }
+        ensures count { result.core.count ≡ 0 }
     {
         Session {
             core: Core::new(alloc, name),
-            opened: 0,
-            decoder: None,
+            decoders: BTreeMap::new(alloc),
         }
     }
 
     /// What is written for an entry.
-    pub fn answer(&mut self, alloc: Global, entry: &Entry) -> Result<Vec<u8>, NoMemory>
+    pub fn answer<R: Threads + Sync, L: Ledger>(
+        &mut self,
+        alloc: Global,
+        rt: &R,
+        entry: &Entry,
+        steps: &mut Steps<L>,
+    ) -> Result<Vec<u8>, NoMemory>
         requires { CanAnswer self.old entry.now }
-        ensures { (name : List ℕ) (before : List Event) → Stands name self.old before
+        ensures counted { OnOk result (self.new.core.count ≤ self.old.core.count + 2 * weight entry.now) }
+        ensures answers { (name : List ℕ) (before : List Event) → Stands name self.old before
             → IfOk result (λ written. Answers name before entry.now written.items self.new) }
+        ensures cost { steps.new ≡ steps.old }
     {
         match entry {
-            Entry::NewLink => self.open(alloc),
-            Entry::Bytes { link, bytes } => self.hear(alloc, *link, bytes.as_slice()),
-            Entry::End { link } => self.end(alloc, *link),
+            Entry::NewLink => self.open(alloc, rt, steps),
+            Entry::Bytes { link, bytes } => self.hear(alloc, rt, *link, bytes.as_slice(), steps),
+            Entry::End { link } => self.end(alloc, rt, *link, steps),
         }
     }
 
-    /// The last line: the accepted updates, the triples, and no subscriptions.
+    /// The last line: the accepted updates, the triples, and the subscriptions that live.
     #[tactic(auto, unfolding(crate::specs::Output::last_line))]
     pub fn last_line(&self, alloc: Global) -> Result<Vec<u8>, NoMemory>
-        ensures { IfOk result (λ line. line.items ≡ last_line self.now.core) }
+        ensures { IfOk result (λ line. line.items ≡ last_line self.now.core.space) }
     {
         let updates = self.core.updates();
         let triples = self.core.triples();
-        Ok(format!(in alloc; "= {updates} {triples} 0\n")?.into_bytes())
+        let subscriptions = self.core.subscriptions();
+        Ok(format!(in alloc; "= {updates} {triples} {subscriptions}\n")?.into_bytes())
     }
 
-    // Opens the next link, where none is open and there is a number for it.
-    fn open(&mut self, alloc: Global) -> Result<Vec<u8>, NoMemory>
-        ensures { (name : List ℕ) (before : List Event) → Stands name self.old before
+    // Opens the next link, if one may open.
+    fn open<R: Threads + Sync, L: Ledger>(
+        &mut self,
+        alloc: Global,
+        rt: &R,
+        steps: &mut Steps<L>,
+    ) -> Result<Vec<u8>, NoMemory>
+        requires { CanAnswer self.old NewLink }
+        ensures counted { OnOk result (self.new.core.count ≤ self.old.core.count + 2) }
+        ensures answers { (name : List ℕ) (before : List Event) → Stands name self.old before
             → IfOk result (λ written. Answers name before NewLink written.items self.new) }
+        ensures cost { steps.new ≡ steps.old }
     {
-        if self.decoder.is_some() {
-            return full(alloc, 1);
-        }
-        match self.opened.checked_add(1) {
+        let mut lines = Vec::new(alloc);
+        match act(
+            alloc,
+            rt,
+            &mut self.core,
+            Call::NewLink,
+            None,
+            &mut lines,
+            steps,
+        )? {
             Some(link) => {
-                self.opened = link;
-                self.decoder = Some(Decoder::new(alloc));
-                Ok(Vec::new(alloc))
+                self.decoders.insert(link, Decoder::new(alloc))?;
+                Ok(lines)
             }
-            None => full(alloc, 0),
+            None => Ok(lines),
         }
     }
 
     // Takes a delivery.
-    fn hear(&mut self, alloc: Global, link: u32, bytes: &[u8]) -> Result<Vec<u8>, NoMemory>
-        requires { CanAnswer self.old (Delivery link bytes.now) }
-        ensures { (name : List ℕ) (before : List Event) → Stands name self.old before
-            → IfOk result (λ written. Answers name before (Delivery link bytes.now) written.items self.new) }
-    {
-        match self.take_decoder(link) {
-            Some(decoder) => self.hear_all(alloc, link, decoder, bytes),
-            None => closed(alloc, link),
-        }
-    }
-
-    // Takes the bytes that come on the open link, whose decoder was taken out, up to where it stops.
-    fn hear_all(
+    fn hear<R: Threads + Sync, L: Ledger>(
         &mut self,
         alloc: Global,
+        rt: &R,
         link: u32,
-        mut decoder: Decoder,
         bytes: &[u8],
+        steps: &mut Steps<L>,
     ) -> Result<Vec<u8>, NoMemory>
-        requires fits { decoder.taken + length bytes.now < 2 ^ 63 }
-        requires following { IsFollowing decoder }
-        ensures { (heard : List ℕ) (asked : ℕ) → Follows decoder heard asked
-            → IfOk result (λ lines. HearsAll link heard asked bytes.now self.old self.new lines.items) }
+        requires { CanAnswer self.old (Delivery link bytes.now) }
+        ensures counted { OnOk result (self.new.core.count ≤ self.old.core.count + 2 * length bytes.now) }
+        ensures answers { (name : List ℕ) (before : List Event) → Stands name self.old before
+            → IfOk result (λ written. Answers name before (Delivery link bytes.now) written.items self.new) }
+        ensures cost { steps.new ≡ steps.old }
     {
-        let mut lines = Vec::new(alloc);
-        let mut rest = bytes;
-        while !rest.is_empty() {
-            match hear_some(alloc, link, &mut self.core, &mut decoder, rest, &mut lines)? {
-                Some(count) => rest = rest.split_at(count).1,
-                None => return Ok(lines),
-            }
+        let Some(mut decoder) = self.decoders.remove(&link) else {
+            return closed(alloc, link);
+        };
+        let lines = hear_all(alloc, rt, link, &mut self.core, &mut decoder, bytes, steps)?;
+        if runs(&self.core, link) {
+            self.decoders.insert(link, decoder)?;
+            return Ok(lines);
         }
-        self.decoder = Some(decoder);
         Ok(lines)
     }
 
     // Ends the input of a link.
-    fn end(&mut self, alloc: Global, link: u32) -> Result<Vec<u8>, NoMemory>
-        ensures { (name : List ℕ) (before : List Event) → Stands name self.old before
+    fn end<R: Threads + Sync, L: Ledger>(
+        &mut self,
+        alloc: Global,
+        rt: &R,
+        link: u32,
+        steps: &mut Steps<L>,
+    ) -> Result<Vec<u8>, NoMemory>
+        requires { CanAnswer self.old (End link) }
+        ensures counted { OnOk result (self.new.core.count ≤ self.old.core.count + 2) }
+        ensures answers { (name : List ℕ) (before : List Event) → Stands name self.old before
             → IfOk result (λ written. Answers name before (End link) written.items self.new) }
+        ensures cost { steps.new ≡ steps.old }
     {
-        let Some(mut decoder) = self.take_decoder(link) else {
+        let Some(decoder) = self.decoders.remove(&link) else {
             return closed(alloc, link);
         };
-        match decoder.end() {
-            Ok(()) => Ok(Vec::new(alloc)),
-            Err(stop) => stopped(alloc, link, Why::of(stop)?),
-        }
-    }
-
-    // Takes out the decoder of a link, if it is open, after which no link is.
-    fn take_decoder(&mut self, link: u32) -> Option<Decoder>
-        ensures taken { result ≡ (if self.old.opened == link then self.old.decoder else None) }
-        ensures left { self.new ≡ (if self.old.opened == link then record self.old { decoder = None } else self.old) }
-    {
-        if self.opened == link {
-            self.decoder.take()
-        } else {
-            None
-        }
+        let reason = end_of(link, decoder)?;
+        let mut lines = Vec::new(alloc);
+        act(
+            alloc,
+            rt,
+            &mut self.core,
+            Call::End(link),
+            reason,
+            &mut lines,
+            steps,
+        )?;
+        Ok(lines)
     }
 }

@@ -18,9 +18,6 @@ const JOIN: &str =
 const INSERT: &str =
     "<SSAP_message><message_type>REQUEST</message_type><transaction_type>INSERT</transaction_type><transaction_id>2</transaction_id><node_id>k</node_id><space_id>X</space_id><parameter name=\"insert_graph\" encoding=\"RDF-M3\"><triple_list><triple><subject type=\"uri\">lamp</subject><predicate>state</predicate><object type=\"literal\">on</object></triple></triple_list></parameter></SSAP_message>";
 
-const LEAVE: &str =
-    "<SSAP_message><message_type>REQUEST</message_type><transaction_type>LEAVE</transaction_type><transaction_id>1</transaction_id><node_id>k</node_id><space_id>X</space_id></SSAP_message>";
-
 /// A JOIN in another order, with credentials and white space in a tag.
 const JOIN_OTHERWISE: &str =
     "<SSAP_message><node_id>k</node_id><space_id>X</space_id><transaction_type>JOIN</transaction_type><message_type>REQUEST</message_type><transaction_id>1</transaction_id><parameter name = \"credentials\">XYZZY</parameter></SSAP_message>";
@@ -28,6 +25,28 @@ const JOIN_OTHERWISE: &str =
 /// An INSERT in another order, with a wish for a confirm.
 const INSERT_OTHERWISE: &str =
     "<SSAP_message><node_id>k</node_id><space_id>X</space_id><transaction_type>INSERT</transaction_type><message_type>REQUEST</message_type><transaction_id>2</transaction_id><parameter name=\"insert_graph\" encoding=\"RDF-M3\"><triple_list><triple><subject type=\"uri\">lamp</subject><predicate>state</predicate><object type=\"literal\">on</object></triple></triple_list></parameter><parameter name=\"confirm\">TRUE</parameter></SSAP_message>";
+
+/// The graph of one triple, whose object is a literal, and the same without a confirm of success.
+const A_ONE: &str =
+    "<parameter name=\"insert_graph\" encoding=\"RDF-M3\"><triple_list><triple><subject type=\"uri\">a</subject><predicate>p</predicate><object type=\"literal\">1</object></triple></triple_list></parameter>";
+
+const A_ONE_SILENT: &str =
+    "<parameter name=\"insert_graph\" encoding=\"RDF-M3\"><triple_list><triple><subject type=\"uri\">a</subject><predicate>p</predicate><object type=\"literal\">1</object></triple></triple_list></parameter><parameter name=\"confirm\">FALSE</parameter>";
+
+const B_ONE: &str =
+    "<parameter name=\"insert_graph\" encoding=\"RDF-M3\"><triple_list><triple><subject type=\"uri\">b</subject><predicate>p</predicate><object type=\"literal\">1</object></triple></triple_list></parameter>";
+
+/// A graph whose object is any.
+const A_ANY: &str =
+    "<parameter name=\"insert_graph\" encoding=\"RDF-M3\"><triple_list><triple><subject type=\"uri\">a</subject><predicate>p</predicate><object type=\"uri\">sib:any</object></triple></triple_list></parameter>";
+
+/// A graph whose subject is a blank node.
+const A_NODE: &str =
+    "<parameter name=\"insert_graph\" encoding=\"RDF-M3\"><triple_list><triple><subject type=\"bnode\">a</subject><predicate>p</predicate><object type=\"literal\">1</object></triple></triple_list></parameter>";
+
+/// Two graphs.
+const TWO_GRAPHS: &str =
+    "<parameter name=\"insert_graph\" encoding=\"RDF-M3\"><triple_list><triple><subject type=\"uri\">a</subject><predicate>p</predicate><object type=\"literal\">1</object></triple></triple_list></parameter><parameter name=\"insert_graph\" encoding=\"RDF-M3\"><triple_list><triple><subject type=\"uri\">b</subject><predicate>p</predicate><object type=\"literal\">1</object></triple></triple_list></parameter>";
 
 /// The beginning of a message whose transaction id is given twice, behind the type and before it.
 const IDS_AND_TYPE: &str =
@@ -175,17 +194,13 @@ fn messages_in_any_spelling_and_any_deliveries(rt: HostRuntime) -> Result<(), Fa
 fn links_that_stop(rt: HostRuntime) -> Result<(), Fail> {
     let alloc = rt.alloc();
     let cut = format!(in alloc; "{JOIN}<SSAP")?;
-    let refused = format!(in alloc; "{JOIN}{LEAVE}{JOIN}")?;
     let cut_lines = format!(in alloc; "<1 229\n{JOINED}\n!1 182 cut\n= 0 0 0\n")?;
     let closed_lines = format!(in alloc; "<1 229\n{JOINED}\n!1 182 cut\n!1 0 closed\n= 0 0 0\n")?;
-    let refused_lines = format!(in alloc; "<1 229\n{JOINED}\n!1 182 form\n= 0 0 0\n")?;
-    for (text, end, lines) in [
-        (IDS_AND_TYPE, "", "!1 90 syntax\n= 0 0 0\n"),
-        (IDS, "", "!1 61 syntax\n= 0 0 0\n"),
-        (LEAVE, "", "!1 0 form\n= 0 0 0\n"),
-        (refused.as_str(), "", refused_lines.as_str()),
+    for (text, lines) in [
+        (IDS_AND_TYPE, "!1 90 syntax\n= 0 0 0\n"),
+        (IDS, "!1 61 syntax\n= 0 0 0\n"),
     ] {
-        let script = delivered(alloc, text, 4096, end)?;
+        let script = delivered(alloc, text, 4096, "")?;
         check(alloc, &rt, &script, PLAIN, 0, lines)?;
     }
     for (text, end, lines) in [
@@ -203,25 +218,200 @@ fn links_that_stop(rt: HostRuntime) -> Result<(), Fail> {
 }
 
 #[test]
-fn an_insert_of_a_stranger_and_a_stop(rt: HostRuntime) -> Result<(), Fail> {
+fn messages_that_are_no_requests(rt: HostRuntime) -> Result<(), Fail> {
     let alloc = rt.alloc();
-    let stranger = format!(in alloc; "+\n>1 385\n{INSERT}\n")?;
-    let denied = format!(in alloc; "<1 246\n{DENIED}\n= 0 0 0\n")?;
-    check(alloc, &rt, stranger.as_bytes(), PLAIN, 0, &denied)?;
-    let stopped = format!(in alloc; "+\n>1 182\n{JOIN}\n>1 1\nx\n>1 385\n{INSERT}\n")?;
-    let lines = format!(in alloc; "<1 229\n{JOINED}\n!1 182 syntax\n!1 0 closed\n= 0 0 0\n")?;
-    check(alloc, &rt, stopped.as_bytes(), PLAIN, 0, &lines)
+    let second = format!(in alloc; "{JOIN}{JOINED}{JOIN}")?;
+    let lines = format!(in alloc; "<1 229\n{JOINED}\n!1 182 request\n!1 0 closed\n= 0 0 0\n")?;
+    for (text, end, lines) in [
+        (JOINED, "", "!1 0 request\n= 0 0 0\n"),
+        (
+            JOINED,
+            ">1 1\nx\n-1\n",
+            "!1 0 request\n!1 0 closed\n!1 0 closed\n= 0 0 0\n",
+        ),
+        (second.as_str(), "-1\n", lines.as_str()),
+    ] {
+        let script = delivered(alloc, text, 4096, end)?;
+        check(alloc, &rt, &script, PLAIN, 0, lines)?;
+    }
+    Ok(())
+}
+
+/// A request that comes on a link, and the length and the status of its confirm.
+#[derive(Clone, Copy)]
+struct Exchange<'a> {
+    link: u32,
+    kind: &'a str,
+    id: u32,
+    space: &'a str,
+    params: &'a str,
+    length: u32,
+    status: &'a str,
+}
+
+/// The script of requests of the node k, behind others.
+fn asked(alloc: Global, script: &mut Vec<u8>, exchange: &Exchange<'_>) -> Result<(), Fail> {
+    let Exchange {
+        link,
+        kind,
+        id,
+        space,
+        params,
+        length: _,
+        status: _,
+    } = exchange;
+    let message = format!(in alloc;
+        "<SSAP_message><message_type>REQUEST</message_type><transaction_type>{kind}</transaction_type><transaction_id>{id}</transaction_id><node_id>k</node_id><space_id>{space}</space_id>{params}</SSAP_message>"
+    )?;
+    let count = message.len();
+    script.extend_from_slice(format!(in alloc; ">{link} {count}\n{message}\n")?.as_bytes())?;
+    Ok(())
+}
+
+/// The confirm of a request, behind others.
+fn confirmed(alloc: Global, output: &mut String, exchange: &Exchange<'_>) -> Result<(), Fail> {
+    let Exchange {
+        link,
+        kind,
+        id,
+        space,
+        params: _,
+        length,
+        status,
+    } = exchange;
+    let message = format!(in alloc;
+        "<SSAP_message><message_type>CONFIRM</message_type><transaction_type>{kind}</transaction_type><transaction_id>{id}</transaction_id><node_id>k</node_id><space_id>{space}</space_id><parameter name=\"status\">m3:{status}</parameter></SSAP_message>"
+    )?;
+    output.push_str(&format!(in alloc; "<{link} {length}\n{message}\n")?)?;
+    Ok(())
+}
+
+/// Runs a script that opens links and then asks these, where a confirm of no bytes isn't sent.
+fn exchanged<R: Threads + Sync + Abort>(
+    alloc: Global,
+    rt: &R,
+    opens: &str,
+    exchanges: &[Exchange<'_>],
+    last: &str,
+) -> Result<(), Fail> {
+    let mut script = Vec::from_slice(alloc, opens.as_bytes())?;
+    let mut output = String::new(alloc);
+    for exchange in exchanges {
+        asked(alloc, &mut script, exchange)?;
+        if exchange.length > 0 {
+            confirmed(alloc, &mut output, exchange)?;
+        }
+    }
+    output.push_str(last)?;
+    check(alloc, rt, &script, PLAIN, 0, &output)
+}
+
+/// A request of the node k that comes on a link, with its confirm.
+const fn asks(
+    link: u32,
+    kind: &'static str,
+    id: u32,
+    params: &'static str,
+    length: u32,
+    status: &'static str,
+) -> Exchange<'static> {
+    Exchange {
+        link,
+        kind,
+        id,
+        space: "X",
+        params,
+        length,
+        status,
+    }
+}
+
+#[test]
+fn statuses_of_requests(rt: HostRuntime) -> Result<(), Fail> {
+    let alloc = rt.alloc();
+    let exchanges = [
+        asks(1, "INSERT", 1, A_ONE, 246, "SIB.Error.AccessDenied"),
+        asks(1, "JOIN", 2, "", 229, "Success"),
+        asks(1, "JOIN", 3, "", 229, "Success"),
+        asks(1, "INSERT", 4, A_ANY, 240, "KP.Error.Request"),
+        asks(1, "INSERT", 5, "", 251, "KP.Error.Message.Incomplete"),
+        asks(1, "INSERT", 6, TWO_GRAPHS, 247, "KP.Error.Message.Syntax"),
+        asks(1, "INSERT", 7, A_NODE, 250, "SIB.Failure.NotImplemented"),
+        Exchange {
+            link: 1,
+            kind: "LEAVE",
+            id: 8,
+            space: "Y",
+            params: "",
+            length: 239,
+            status: "KP.Error.Request",
+        },
+    ];
+    exchanged(alloc, &rt, "+\n", &exchanges, "= 0 0 0\n")
+}
+
+#[test]
+fn an_insert_without_a_confirm_and_a_leave(rt: HostRuntime) -> Result<(), Fail> {
+    let alloc = rt.alloc();
+    let exchanges = [
+        asks(1, "JOIN", 1, "", 229, "Success"),
+        asks(1, "INSERT", 2, A_ONE_SILENT, 0, ""),
+        asks(1, "LEAVE", 3, "", 230, "Success"),
+        asks(1, "INSERT", 4, B_ONE, 246, "SIB.Error.AccessDenied"),
+    ];
+    exchanged(alloc, &rt, "+\n", &exchanges, "= 1 1 0\n")
+}
+
+#[test]
+fn nodes_speak_on_any_link(rt: HostRuntime) -> Result<(), Fail> {
+    let alloc = rt.alloc();
+    let exchanges = [
+        asks(2, "JOIN", 1, "", 229, "Success"),
+        asks(1, "INSERT", 2, A_ONE, 231, "Success"),
+        asks(3, "INSERT", 3, A_ONE, 231, "Success"),
+        asks(1, "LEAVE", 4, "", 230, "Success"),
+        asks(2, "INSERT", 5, B_ONE, 246, "SIB.Error.AccessDenied"),
+    ];
+    exchanged(alloc, &rt, "+\n+\n+\n", &exchanges, "= 2 1 0\n")
+}
+
+#[test]
+fn messages_cut_between_links(rt: HostRuntime) -> Result<(), Fail> {
+    let alloc = rt.alloc();
+    let (front, back) = JOIN.split_at(100);
+    let script = format!(in alloc;
+        "+\n+\n>1 100\n{front}\n>2 385\n{INSERT}\n>1 82\n{back}\n>2 385\n{INSERT}\n>1 1\nx\n>2 1\n \n-2\n-1\n"
+    )?;
+    let lines = format!(in alloc;
+        "<2 246\n{DENIED}\n<1 229\n{JOINED}\n<2 231\n{INSERTED}\n!1 182 syntax\n!1 0 closed\n= 1 1 0\n"
+    )?;
+    check(alloc, &rt, script.as_bytes(), PLAIN, 0, &lines)
 }
 
 #[test]
 fn scripts_that_are_none(rt: HostRuntime) -> Result<(), Fail> {
     let alloc = rt.alloc();
     check(alloc, &rt, b"", PLAIN, 0, "= 0 0 0\n")?;
-    for script in ["+", "x", "-", "+\n>1 01\n", ">1 3\nabcX"] {
-        check(alloc, &rt, script.as_bytes(), PLAIN, 3, "")?;
+    for (script, line) in [
+        ("+", "? 1\n"),
+        ("x", "? 0\n"),
+        ("-", "? 1\n"),
+        ("+\n>1 01\n", "? 6\n"),
+        (">1 3\nabcX", "? 8\n"),
+        (">1 0\n\nx", "!1 0 closed\n? 6\n"),
+    ] {
+        for piece in [1, 4096] {
+            let trial = Trial {
+                space: "X",
+                piece,
+                failing_read: 0,
+                failing_write: 0,
+            };
+            check(alloc, &rt, script.as_bytes(), trial, 3, line)?;
+        }
     }
     let inside = format!(in alloc; "+\n>1 182\n{JOIN}\n>1 5\nab")?;
-    let joined = format!(in alloc; "<1 229\n{JOINED}\n")?;
+    let joined = format!(in alloc; "<1 229\n{JOINED}\n? 199\n")?;
     check(alloc, &rt, inside.as_bytes(), PLAIN, 3, &joined)
 }
 
@@ -229,11 +419,11 @@ fn scripts_that_are_none(rt: HostRuntime) -> Result<(), Fail> {
 fn links_that_open_and_close(rt: HostRuntime) -> Result<(), Fail> {
     let alloc = rt.alloc();
     for (script, output) in [
-        ("+\n+\n", "!0 1 full\n= 0 0 0\n"),
+        ("+\n+\n", "= 0 0 0\n"),
         ("+\n-1\n-1\n", "!1 0 closed\n= 0 0 0\n"),
         ("+\n>2 0\n\n", "!2 0 closed\n= 0 0 0\n"),
         (">1 0\n\n", "!1 0 closed\n= 0 0 0\n"),
-        ("+\n+\n-1\n+\n-2\n-3\n", "!0 1 full\n!3 0 closed\n= 0 0 0\n"),
+        ("+\n+\n-1\n+\n-2\n-3\n-3\n", "!3 0 closed\n= 0 0 0\n"),
         (
             "+\n>1 1\nx\n>1 1\nx\n+\n>2 1\nx\n",
             "!1 0 syntax\n!1 0 closed\n!2 0 syntax\n= 0 0 0\n",
@@ -245,16 +435,13 @@ fn links_that_open_and_close(rt: HostRuntime) -> Result<(), Fail> {
 }
 
 #[test]
-fn one_space_for_all_links(rt: HostRuntime) -> Result<(), Fail> {
+fn no_link_opens_beside_256(rt: HostRuntime) -> Result<(), Fail> {
     let alloc = rt.alloc();
-    let second = format!(in alloc; "+\n-1\n+\n>2 182\n{JOIN}\n")?;
-    let joined = format!(in alloc; "<2 229\n{JOINED}\n= 0 0 0\n")?;
-    check(alloc, &rt, second.as_bytes(), PLAIN, 0, &joined)?;
-    let both = format!(in alloc; "+\n>1 182\n{JOIN}\n-1\n+\n>2 385\n{INSERT}\n>2 1\nx\n")?;
-    let lines = format!(in alloc;
-        "<1 229\n{JOINED}\n<2 231\n{INSERTED}\n!2 385 syntax\n= 1 1 0\n"
-    )?;
-    check(alloc, &rt, both.as_bytes(), PLAIN, 0, &lines)
+    let mut script = Vec::new(alloc);
+    for _ in 0..257 {
+        script.extend_from_slice(b"+\n")?;
+    }
+    check(alloc, &rt, &script, PLAIN, 0, "!0 256 full\n= 0 0 0\n")
 }
 
 #[test]
@@ -297,5 +484,11 @@ fn each_read_and_each_write_fails_in_turn(rt: HostRuntime) -> Result<(), Fail> {
         };
         check(alloc, &rt, script.as_bytes(), trial, 5, output)?;
     }
-    Ok(())
+    let trial = Trial {
+        space: "X",
+        piece: 64,
+        failing_read: 0,
+        failing_write: 1,
+    };
+    check(alloc, &rt, b"x", trial, 5, "")
 }

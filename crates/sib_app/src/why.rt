@@ -8,14 +8,16 @@ use ssap_decode::Stop;
 /// Why a link stops. Places count the bytes of the link, from 0.
 #[derive(Clone, Copy, Debug, PartialEq, Eq)]
 pub enum Why {
-    /// The message that begins at `place` is no request.
-    Form { place: u64 },
     /// No message goes on with the byte at `place`.
     Syntax { place: u64 },
     /// The message that begins at `start` is too long.
     Long { start: u64 },
     /// The bytes end inside the message that begins at `start`.
     Cut { start: u64 },
+    /// The message that begins at `start` is no request.
+    Request { start: u64 },
+    /// More would wait on the link than may.
+    Overrun,
 }
 
 impl Why {
@@ -36,8 +38,9 @@ impl Why {
         ensures { result ≡ place_of self }
     {
         match self {
-            Why::Form { place } | Why::Syntax { place } => place,
-            Why::Long { start } | Why::Cut { start } => start,
+            Why::Syntax { place } => place,
+            Why::Long { start } | Why::Cut { start } | Why::Request { start } => start,
+            Why::Overrun => 0,
         }
     }
 
@@ -47,10 +50,11 @@ impl Why {
         ensures { result.now ≡ kind_of self }
     {
         match self {
-            Why::Form { place: _ } => "form",
             Why::Syntax { place: _ } => "syntax",
             Why::Long { start: _ } => "long",
             Why::Cut { start: _ } => "cut",
+            Why::Request { start: _ } => "request",
+            Why::Overrun => "overrun",
         }
     }
 }

@@ -12,7 +12,7 @@ returns-in-Ok-Some-clause-bad g c name is three =
     (subst (λ (n : List ℕ). Ended n
     (record { left = g.S.Source.left c.args.source.now; given = g.K.Sink.given c.args.sink.now; read_faults = g.S.Source.faults c.args.source.now; write_faults = g.K.Sink.faults c.args.sink.now })
     (record { left = g.S.Source.left c.replay.new.source; given = g.K.Sink.given c.replay.new.sink; read_faults = g.S.Source.faults c.replay.new.source; write_faults = g.K.Sink.faults c.replay.new.sink })
-    c.replay.result) same c.replay.ensures) c.status.ensures three
+    c.replay.result) same c.replay.ensures.ended) c.status.ensures three
 
 -- what was given is a front of the whole output
 pub returns-in-Ok-Some-clause-part : goal.returns-in-Ok-Some-clause-part
@@ -24,7 +24,7 @@ returns-in-Ok-Some-clause-part g c name all output is tells whole =
     c.replay.result all output (subst (λ (n : List ℕ). Ended n
     (record { left = g.S.Source.left c.args.source.now; given = g.K.Sink.given c.args.sink.now; read_faults = g.S.Source.faults c.args.source.now; write_faults = g.K.Sink.faults c.args.sink.now })
     (record { left = g.S.Source.left c.replay.new.source; given = g.K.Sink.given c.replay.new.sink; read_faults = g.S.Source.faults c.replay.new.source; write_faults = g.K.Sink.faults c.replay.new.sink })
-    c.replay.result) same c.replay.ensures) tells whole
+    c.replay.result) same c.replay.ensures.ended) tells whole
 
 -- a script is answered whole
 pub returns-in-Ok-Some-clause-complete : goal.returns-in-Ok-Some-clause-complete
@@ -33,7 +33,7 @@ returns-in-Ok-Some-clause-complete g c name all entries is tells script short re
     (ended_complete c.in-Ok-Some.name
     (record { left = g.S.Source.left c.args.source.now; given = g.K.Sink.given c.args.sink.now; read_faults = g.S.Source.faults c.args.source.now; write_faults = g.K.Sink.faults c.args.sink.now })
     (record { left = g.S.Source.left c.replay.new.source; given = g.K.Sink.given c.replay.new.sink; read_faults = g.S.Source.faults c.replay.new.source; write_faults = g.K.Sink.faults c.replay.new.sink })
-    c.replay.result all entries c.replay.ensures tells script short reads writes)
+    c.replay.result all entries c.replay.ensures.ended tells script short reads writes)
 
 -- nothing was read for want of memory
 pub returns-in-Err-clause-run : goal.returns-in-Err-clause-run

@@ -7,6 +7,7 @@ use Rattle.sib_app.proofs.replay.Replay.feed.Goals as goal
 -- nothing was read yet
 pub loop-rest-init : goal.loop-rest-init
 loop-rest-init g c = record {
+  steps = refl;
   taken = refl;
   ongoing = c.requires.ongoing;
   later = omega arith;
@@ -39,6 +40,7 @@ loop-rest-preserved g c =
     ∙ ap (λ l. front ++ l) (take-append-drop count rest) ∙ whole
     in
     record {
+      steps = c.in_ok-count.ensures.cost ∙ c.loop-rest.invariant.steps;
       taken = omega (arith, c.in_ok-count.ensures.taken, c.split_at.ensures.back_len, c.loop-rest.invariant.taken, c.in_ok-count.ensures.within);
       ongoing = c.in_ok-count.ensures.ongoing;
       later = omega (arith, c.loop-rest.invariant.later, c.feed_some.ensures.later);

@@ -5,6 +5,7 @@ use Rattle.sib_app.proofs.replay.Replay.feed.Given as goal
 -- a front of the bytes was read and answered
 abbrev pub invariant-loop-rest : goal.invariant-loop-rest
 invariant-loop-rest g l = record {
+  steps : l.steps ≡ l.fn.steps;
   taken : l.self.reader.taken + length l.rest ≡ l.fn.self.reader.taken + length l.fn.bytes;
   ongoing : IsOngoing l.self.reader l.self.session;
   later : g.K.Sink.faults l.fn.sink ≤ g.K.Sink.faults l.sink;

@@ -5,33 +5,32 @@ use Rattle.sib_app.proofs.FeedLemmas.{feeds_some, refused_stops, fails_stop, unt
 use Rattle.sib_app.proofs.replay.Replay.feed_some.Goals as goal
 
 -- the entry that was read is held
-pub answer-requires : goal.answer-requires
-answer-requires g c =
+pub answer-requires-clause-held : goal.answer-requires-clause-held
+answer-requires-clause-held g c κs within =
     let (name, read, h) = c.requires.ongoing in
-    let count = c.in_ok-count.count in
+    let count = c.in-Ok.count in
     let bytes = c.args.bytes.now in (
       name,
       read ++ take count bytes,
       held_entry name None None read bytes c.args.self.now.reader c.feed.new.self c.next.new.self c.args.self.now.session count c.in-Some.entry h
-          c.in_ok-count.ensures.ok (sym c.next.ensures.entry ∙ c.in-Some.is) c.next.ensures.taken c.requires.fits,
+          c.in-Ok.ensures.ok (sym c.next.ensures.entry ∙ c.in-Some.is) c.next.ensures.taken c.requires.fits,
     )
 
 -- a refused call of the reader stops the replay
-pub returns-in_err-count-clause-err : goal.returns-in_err-count-clause-err
-returns-in_err-count-clause-err g c name old read h =
-    let p = err_from_is_err_and c.from_residual.result c.from_residual.ensures.1 in
-    rw (p.1, p.2) (refused_stops name old (g.K.Sink.given c.args.sink.now) (g.K.Sink.faults c.args.sink.now) (g.K.Sink.faults c.args.sink.now) read c.args.bytes.now
-    c.args.self.now.reader c.feed.new.self c.args.self.now.session c.in_err-count.field-0.0 h c.in_err-count.ensures.refused)
+pub returns-in-Err-clause-err : goal.returns-in-Err-clause-err
+returns-in-Err-clause-err g c name old read h =
+    refused_stops name old (g.K.Sink.given c.args.sink.now) (g.K.Sink.given c.refuse.new.sink) (g.K.Sink.faults c.args.sink.now) (g.K.Sink.faults c.refuse.new.sink) read
+    c.args.self.now.reader c.feed.new.self c.args.self.now.session c.refuse.result h c.args.bytes.now c.in-Err.fault c.in-Err.ensures.refused c.refuse.ensures.place c.refuse.ensures.memory
 
 -- an entry that could not be answered stops it too
 pub returns-in_err-answer-clause-err : goal.returns-in_err-answer-clause-err
 returns-in_err-answer-clause-err g c name old read h =
-    let p = err_from_is_err_and c.from_residual-in_err-answer.result c.from_residual-in_err-answer.ensures.1 in
+    let p = err_from_is_err_and c.from_residual.result c.from_residual.ensures.1 in
     let given = g.K.Sink.given c.args.sink.now in
     let bytes = c.args.bytes.now in
-    let count = c.in_ok-count.count in
+    let count = c.in-Ok.count in
     let held = held_entry name old given read bytes c.args.self.now.reader c.feed.new.self c.next.new.self c.args.self.now.session count c.in-Some.entry h
-    c.in_ok-count.ensures.ok (sym c.next.ensures.entry ∙ c.in-Some.is) c.next.ensures.taken c.requires.fits
+    c.in-Ok.ensures.ok (sym c.next.ensures.entry ∙ c.in-Some.is) c.next.ensures.taken c.requires.fits
     in
     let fails = c.in_err-answer.ensures.err name old (read ++ take count bytes) held in
     let whole : (read ++ take count bytes) ++ drop count bytes ≡ read ++ bytes =
@@ -44,8 +43,8 @@ returns-in_err-answer-clause-err g c name old read h =
 pub returns-in_ok-answer-clause-within : goal.returns-in_ok-answer-clause-within
 returns-in_ok-answer-clause-within g c =
     let (name, read, h) = c.requires.ongoing in (
-      feeds_some name None None read c.args.bytes.now c.args.self.now.reader c.feed.new.self c.args.self.now.session c.in_ok-count.count c.requires.some h c.in_ok-count.ensures.ok,
-      c.in_ok-count.ensures.ok.within,
+      feeds_some name None None read c.args.bytes.now c.args.self.now.reader c.feed.new.self c.args.self.now.session c.in-Ok.count c.requires.some h c.in-Ok.ensures.ok,
+      c.in-Ok.ensures.ok.within,
     )
 
 -- the replay goes on behind an entry
@@ -53,11 +52,11 @@ pub returns-in_ok-answer-clause-ongoing : goal.returns-in_ok-answer-clause-ongoi
 returns-in_ok-answer-clause-ongoing g c =
     let (name, read, h) = c.requires.ongoing in
     let given = g.K.Sink.given c.args.sink.now in
-    let count = c.in_ok-count.count in
+    let count = c.in-Ok.count in
     let bytes = c.args.bytes.now in
     let here = untold name None None given read c.args.self.now.reader c.args.self.now.session h in
     let held = held_entry name None given read bytes c.args.self.now.reader c.feed.new.self c.next.new.self c.args.self.now.session count c.in-Some.entry here
-    c.in_ok-count.ensures.ok (sym c.next.ensures.entry ∙ c.in-Some.is) c.next.ensures.taken c.requires.fits
+    c.in-Ok.ensures.ok (sym c.next.ensures.entry ∙ c.in-Some.is) c.next.ensures.taken c.requires.fits
     in (
       name,
       read ++ take count bytes,
@@ -70,12 +69,12 @@ pub returns-in_default-clause-ongoing : goal.returns-in_default-clause-ongoing
 returns-in_default-clause-ongoing g c =
     let (name, read, h) = c.requires.ongoing in (
       name,
-      read ++ take c.in_ok-count.count c.args.bytes.now,
-      goes_on name None None read c.args.bytes.now c.args.self.now.reader c.feed.new.self c.next.new.self c.args.self.now.session c.in_ok-count.count h
-          c.in_ok-count.ensures.ok (sym c.next.ensures.entry ∙ c.in_default.is) c.next.ensures.taken,
+      read ++ take c.in-Ok.count c.args.bytes.now,
+      goes_on name None None read c.args.bytes.now c.args.self.now.reader c.feed.new.self c.next.new.self c.args.self.now.session c.in-Ok.count h
+          c.in-Ok.ensures.ok (sym c.next.ensures.entry ∙ c.in_default.is) c.next.ensures.taken,
     )
 
 pub returns-in_default-clause-ok : goal.returns-in_default-clause-ok
 returns-in_default-clause-ok g c name old read h =
-    goes_on name old (g.K.Sink.given c.args.sink.now) read c.args.bytes.now c.args.self.now.reader c.feed.new.self c.next.new.self c.args.self.now.session c.in_ok-count.count h
-    c.in_ok-count.ensures.ok (sym c.next.ensures.entry ∙ c.in_default.is) c.next.ensures.taken
+    goes_on name old (g.K.Sink.given c.args.sink.now) read c.args.bytes.now c.args.self.now.reader c.feed.new.self c.next.new.self c.args.self.now.session c.in-Ok.count h
+    c.in-Ok.ensures.ok (sym c.next.ensures.entry ∙ c.in_default.is) c.next.ensures.taken

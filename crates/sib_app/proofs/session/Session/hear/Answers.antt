@@ -1,27 +1,45 @@
-use Rattle.std.proofs.Common.{◌∙◌, sym, subst, ℕ, Vec, Global}
-use Rattle.sib_script.specs.declared.entry.Entry.TheVariants.{Bytes}
-use Rattle.sib_app.specs.Output.{heard, asked_on}
-use Rattle.sib_app.specs.Session.{Answers}
-use Rattle.sib_app.specs.declared.session.Session.{Session}
-use Rattle.sib_app.proofs.SessionAnswers.{taken_some, taken_none, follows_of, answers_heard, answers_unheard}
+use Rattle.std.proofs.Common.{◌∙◌, sym, refl, ℕ, [], ◌∷◌, ◌++◌, Vec, Global}
+use Rattle.sib_app.specs.Output.{Hears, heard, arrived_on}
+use Rattle.sib_app.proofs.SessionLemmas.{gets_here, gets_other, follows_of, heard_space, answers_unheard, answers_on, answers_off}
 use Rattle.sib_app.proofs.Results.{if_ok_map}
 use Rattle.sib_app.proofs.session.Session.hear.Goals as goal
 
--- the link is open
-pub returns-in-Some : goal.returns-in-Some
-returns-in-Some c name before s =
-    let some = sym c.take_decoder.ensures.taken ∙ c.in-Some.is in
-    let follows = follows_of name before c.args.self.now s c.args.link c.in-Some.decoder some in
-    if_ok_map c.hear_all.result _ (λ (written : Vec ℕ Global). Answers name before (Bytes c.args.link c.args.bytes.now) written.items c.hear_all.new.self)
-    (c.hear_all.ensures (heard before c.args.link) (asked_on before c.args.link) follows)
-    (λ written all. answers_heard name before c.args.self.now s c.args.link c.args.bytes.now written.items c.in-Some.decoder c.take_decoder.new.self c.hear_all.new.self some
-    (c.take_decoder.ensures.left ∙ taken_some c.args.self.now c.args.link c.in-Some.decoder some) all)
-
 -- the link isn't open
-pub returns-in-None : goal.returns-in-None
-returns-in-None c name before s =
-    let none = sym c.take_decoder.ensures.taken ∙ c.in-None.is in
-    let same = c.take_decoder.ensures.left ∙ taken_none c.args.self.now c.args.link none in
-    if_ok_map c.closed.result _ (λ (written : Vec ℕ Global). Answers name before (Bytes c.args.link c.args.bytes.now) written.items c.take_decoder.new.self) c.closed.ensures
-    (λ written line. subst (λ (n : Session). Answers name before (Bytes c.args.link c.args.bytes.now) written.items n) (sym same)
-    (answers_unheard name before c.args.self.now s c.args.link c.args.bytes.now written.items none line))
+pub returns-in_default-clause-answers : goal.returns-in_default-clause-answers
+returns-in_default-clause-answers g c name before s =
+    let link = c.args.link in
+    if_ok_map c.closed.result _ _ c.closed.ensures
+    (λ (written : Vec ℕ Global) line. answers_unheard name before c.args.self.now s link c.args.bytes.now _ written.items (sym c.remove.ensures.value ∙ c.in_default.is) line refl
+    (gets_here _ _ _ link (c.remove.ensures.updates.0 link))
+    (λ other apart. gets_other _ _ _ link other apart (c.remove.ensures.updates.0 other)))
+
+-- the link is open behind the delivery
+pub returns-then-runs-clause-answers : goal.returns-then-runs-clause-answers
+returns-then-runs-clause-answers g c name before s =
+    let link = c.args.link in
+    let bytes = c.args.bytes.now in
+    let d = c.in-Some.decoder in
+    let some = sym c.remove.ensures.value ∙ c.in-Some.is in
+    let all = c.in_ok-lines.ensures.heard name (before ++ Hears link bytes ∷ []) (heard before link) (arrived_on before link)
+    (heard_space name before c.args.self.now s link bytes) (follows_of name before c.args.self.now s link d some)
+    in
+    answers_on name before c.args.self.now s link bytes _ c.in_ok-lines.lines.items d c.hear_all.new.decoder some all
+    (λ other apart. gets_other _ _ _ link other apart (c.in_ok-insert.ensures.updates.0 other)
+    ∙ gets_other _ _ _ link other apart (c.remove.ensures.updates.0 other))
+    (sym c.runs.ensures ∙ c.if-runs.true)
+    (gets_here _ _ _ link (c.in_ok-insert.ensures.updates.0 link))
+
+-- the link isn't
+pub returns-clause-answers : goal.returns-clause-answers
+returns-clause-answers g c name before s =
+    let link = c.args.link in
+    let bytes = c.args.bytes.now in
+    let d = c.in-Some.decoder in
+    let some = sym c.remove.ensures.value ∙ c.in-Some.is in
+    let all = c.in_ok-lines.ensures.heard name (before ++ Hears link bytes ∷ []) (heard before link) (arrived_on before link)
+    (heard_space name before c.args.self.now s link bytes) (follows_of name before c.args.self.now s link d some)
+    in
+    answers_off name before c.args.self.now s link bytes _ c.in_ok-lines.lines.items d c.hear_all.new.decoder some all
+    (λ other apart. gets_other _ _ _ link other apart (c.remove.ensures.updates.0 other))
+    (sym c.runs.ensures ∙ c.if-runs.false)
+    (gets_here _ _ _ link (c.remove.ensures.updates.0 link))

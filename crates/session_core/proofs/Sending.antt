@@ -1,0 +1,248 @@
+-- What is sent on a link, taken from it, and waits on it.
+use Rattle.std.proofs.Common.{◌≡◌, ◌≢◌, ◌⊎◌, ℕ, zero, suc, Bool, true, false, ◌==◌, List, [], ◌∷◌, ◌++◌, length, drop, Option, Some, None, refl, sym, ap, subst, ◌∙◌, inl, inr, if◌then◌else◌, append-nil, append_assoc, slice_get}
+use Rattle.std.proofs.lemmas.Bool.{cases_eq, eq-eqb, ne_eqb}
+use Rattle.std.proofs.lemmas.List.{drop_at}
+use mathlib.Core.Bool.{true≢false}
+use Rattle.link_table.specs.Links.{Link, is_open, new_link, closed_link, with_message, fits, sent, ended, lost, taken, link_at, changed, state_of, pending_of, pending_or_none, is_full}
+use Rattle.link_table.specs.declared.state.LinkState.{LinkState}
+use Rattle.link_table.specs.declared.state.LinkState.TheVariants.{Never, Open, Ended, Overrun, Gone}
+use Rattle.ssap_shape.specs.declared.request.Arrived.{Arrived}
+use Rattle.ssap_shape.specs.declared.request.Arrived.TheVariants.{Request, Wrong, NotRequest}
+use Rattle.session_core.specs.Space.{Space, empty_space}
+use Rattle.session_core.specs.Requests.{done, confirm, confirm_due, wrong_status}
+use Rattle.session_core.specs.Steps.{Step, queue, delivered, with_links, on_open, on_opened, idle, take_step, taken_from as step_from, step}
+use Rattle.session_core.specs.Runs.{run_from, sent_by, sent_from, message_in, taken_by, taken_from, loses}
+use Rattle.session_core.specs.Laws.{SentTakenWaiting}
+use Rattle.session_core.specs.declared.call.Call.{Call}
+use Rattle.session_core.specs.declared.call.Call.TheVariants as call
+use Rattle.session_core.proofs.Changes.{link_at-place, changed-none, changed-there, changed-apart, push_there, push_old}
+use Rattle.session_core.proofs.Told.{done_links}
+
+-- messages with more behind them
+abbrev Extends : List (List ℕ) → List (List ℕ) → Type 0
+Extends old new = (more : List (List ℕ)) × (new ≡ old ++ more)
+
+extends_same : (pending : List (List ℕ)) → Extends pending pending
+extends_same pending = ([], sym (append-nil pending))
+
+extends_by : (old new : List (List ℕ)) → new ≡ old → Extends old new
+extends_by old new e = ([], e ∙ sym (append-nil old))
+
+-- what is behind messages is what is dropped behind them
+extends_drop : (old new : List (List ℕ)) → Extends old new → old ++ drop (length old) new ≡ new
+extends_drop old new x = ap (λ l. old ++ drop (length old) l) x.1 ∙ ap (λ l. old ++ l) (drop_at old x.0 (length old) refl) ∙ sym x.1
+
+module _ (P : List (List ℕ) → List (List ℕ) → Type 0) (same : (pending : List (List ℕ)) → P pending pending) where
+  pending_at : (change : Link → Link) → ((link : Link) → P link.pending (change link).pending) → (links : List Link) (number other : ℕ) (found : Option Link)
+      → link_at links number ≡ found → (other ≡ number) ⊎ (other ≢ number) → P (pending_of links other) (pending_of (changed change links number) other)
+  pending_at change each links number other None h s =
+      subst (λ l. P (pending_of links other) (pending_of l other)) (sym (changed-none change links number h)) (same (pending_of links other))
+  pending_at change each links number other (Some link) h (inl e) =
+      let before = ap pending_or_none (ap (link_at links) e ∙ h) in
+      let after = ap pending_or_none (ap (link_at (changed change links number)) e ∙ changed-there change links number link h) in
+      subst (λ old. P old (pending_of (changed change links number) other)) (sym before) (subst (P link.pending) (sym after) (each link))
+  pending_at change each links number other (Some link) h (inr n) =
+      subst (P (pending_of links other)) (sym (ap pending_or_none (changed-apart change links number other n))) (same (pending_of links other))
+
+  -- what holds of the messages on each link that changes, and of those that stay, holds on every link
+  pending_changed : (change : Link → Link) → ((link : Link) → P link.pending (change link).pending) → (links : List Link) (number other : ℕ)
+      → P (pending_of links other) (pending_of (changed change links number) other)
+  pending_changed change each links number other = pending_at change each links number other (link_at links number) refl (cases_eq other number)
+
+  either_pending : (b : Bool) (old : List (List ℕ)) (one other : Link) → P old one.pending → P old other.pending → P old (if b then one else other).pending
+  either_pending true old one other p q = p
+  either_pending false old one other p q = q
+
+closed_pending : (state : LinkState) (pending : List (List ℕ)) → (closed_link state pending).pending ≡ pending
+closed_pending state [] = refl
+closed_pending state (message ∷ pending) = refl
+
+ended_pending : (link : Link) → (ended link).pending ≡ link.pending
+ended_pending link = either_pending (λ old new. new ≡ old) (λ p. refl) (is_open link.state) link.pending (closed_link Ended link.pending) link (closed_pending Ended link.pending) refl
+
+sent_pending : (message : List ℕ) (link : Link) → Extends link.pending (sent message link).pending
+sent_pending message link =
+    either_pending Extends extends_same (is_open link.state) link.pending (with_message message link) link
+    (either_pending Extends extends_same (fits (link.pending ++ message ∷ [])) link.pending (record link { pending = link.pending ++ message ∷ [] }) (closed_link Overrun link.pending)
+    (message ∷ [], refl) (extends_by link.pending _ (closed_pending Overrun link.pending)))
+    (extends_same link.pending)
+
+with_pending : (open' : Bool) (state : LinkState) (pending : List (List ℕ)) → (if open' then record { state = state; pending = pending } else closed_link state pending).pending ≡ pending
+with_pending true state pending = refl
+with_pending false state pending = closed_pending state pending
+
+queued_extends : (old new : Space) (link : ℕ) (due : Option (List ℕ)) (number : ℕ) → new.links ≡ old.links
+    → Extends (pending_of old.links number) (pending_of (queue new link due).links number)
+queued_extends old new link None number e = extends_by _ _ (ap (λ links. pending_of links number) e)
+queued_extends old new link (Some message) number e =
+    subst (λ links. Extends (pending_of old.links number) (pending_of (changed (sent message) links link) number)) (sym e)
+    (pending_changed Extends extends_same (sent message) (sent_pending message) old.links link number)
+
+delivered_extends : (space : Space) (link : ℕ) (arrived : Arrived) (number : ℕ) → Extends (pending_of space.links number) (pending_of (delivered space link arrived).links number)
+delivered_extends space link NotRequest number =
+    extends_by _ _ (pending_changed (λ old new. new ≡ old) (λ p. refl) ended ended_pending space.links link number)
+delivered_extends space link (Wrong heads status) number = queued_extends space space link (Some (confirm heads (wrong_status space heads status))) number refl
+delivered_extends space link (Request request) number = queued_extends space (done space request) link (confirm_due space request) number (done_links space request)
+
+on_open_extends : (state : LinkState) (old new : Space) (number : ℕ) → Extends (pending_of old.links number) (pending_of new.links number)
+    → Extends (pending_of old.links number) (pending_of (on_open state old new).space.links number)
+on_open_extends Never old new number x = extends_same (pending_of old.links number)
+on_open_extends Open old new number x = x
+on_open_extends Ended old new number x = extends_same (pending_of old.links number)
+on_open_extends Overrun old new number x = extends_same (pending_of old.links number)
+on_open_extends Gone old new number x = extends_same (pending_of old.links number)
+
+on_open_same : (state : LinkState) (old new : Space) (number : ℕ) → pending_of new.links number ≡ pending_of old.links number
+    → pending_of (on_open state old new).space.links number ≡ pending_of old.links number
+on_open_same Never old new number e = refl
+on_open_same Open old new number e = e
+on_open_same Ended old new number e = refl
+on_open_same Overrun old new number e = refl
+on_open_same Gone old new number e = refl
+
+on_opened_same : (state : LinkState) (old new : Space) (number : ℕ) → pending_of new.links number ≡ pending_of old.links number
+    → pending_of (on_opened state old new).space.links number ≡ pending_of old.links number
+on_opened_same Never old new number e = refl
+on_opened_same Open old new number e = e
+on_opened_same Ended old new number e = e
+on_opened_same Overrun old new number e = e
+on_opened_same Gone old new number e = e
+
+-- on a link that just opened nothing waits
+pushed_pending : (was now : Option Link) → ((link : Link) → was ≡ Some link → now ≡ Some link)
+    → ((link : Link) → now ≡ Some link → (was ≡ Some link) ⊎ (link ≡ new_link)) → pending_or_none now ≡ pending_or_none was
+pushed_pending (Some link) now old new = ap pending_or_none (old link refl)
+pushed_pending None None old new = refl
+pushed_pending None (Some link) old new = pushed_new link (new link refl)
+  where
+    pushed_new : (link : Link) → (◌≡◌ {A = Option Link} None (Some link)) ⊎ (link ≡ new_link) → link.pending ≡ []
+    pushed_new link (inl e) = cc
+    pushed_new link (inr e) = ap (λ (l : Link). l.pending) e
+
+opened_pending : (links : List Link) (number : ℕ) → pending_of (links ++ new_link ∷ []) number ≡ pending_of links number
+opened_pending links zero = refl
+opened_pending links (suc place) =
+    ap pending_or_none (link_at-place (links ++ new_link ∷ []) place)
+    ∙ pushed_pending (slice_get links place) (slice_get (links ++ new_link ∷ []) place)
+    (λ link h. push_old links place new_link link h) (λ link h. push_there links place new_link link h)
+    ∙ sym (ap pending_or_none (link_at-place links place))
+
+open_same : (full : Bool) (space : Space) (refused opened : Step) (number : ℕ) → pending_of refused.space.links number ≡ pending_of space.links number
+    → pending_of opened.space.links number ≡ pending_of space.links number → pending_of (if full then refused else opened).space.links number ≡ pending_of space.links number
+open_same true space refused opened number e f = e
+open_same false space refused opened number e f = f
+
+-- a link that is not this one
+apart : (link number : ℕ) (calls : List Call) → loses (call.Lost link ∷ calls) number ≡ false → link ≢ number
+apart link number calls h e = true≢false (sym (lost_here (link == number) (loses calls number) (eq-eqb link number e)) ∙ h)
+  where
+    lost_here : (here rest : Bool) → here ≡ true → (if here then true else rest) ≡ true
+    lost_here true rest e = refl
+    lost_here false rest e = absurd (true≢false (sym e))
+
+loses_rest : (one : Call) (calls : List Call) (number : ℕ) → loses (one ∷ calls) number ≡ false → loses calls number ≡ false
+loses_rest call.NewLink calls number h = h
+loses_rest (call.Deliver link arrived) calls number h = h
+loses_rest (call.End link) calls number h = h
+loses_rest (call.Lost link) calls number h = rest (link == number) (loses calls number) h
+  where
+    rest : (here later : Bool) → (if here then true else later) ≡ false → later ≡ false
+    rest true later e = absurd (true≢false e)
+    rest false later e = e
+loses_rest (call.Take link) calls number h = h
+
+no_message : (state : LinkState) → message_in (idle state) ≡ []
+no_message Never = refl
+no_message Open = refl
+no_message Ended = refl
+no_message Overrun = refl
+no_message Gone = refl
+
+-- a step that takes a message leaves the others
+abbrev Takes : List (List ℕ) → Step → ℕ → Type 0
+Takes pending after number = pending ≡ message_in after.reply ++ pending_of after.space.links number
+
+take_here : (space : Space) (number : ℕ) (state : LinkState) (pending : List (List ℕ)) → link_at space.links number ≡ Some (record { state = state; pending = pending })
+    → Takes pending (step_from space number state pending) number
+take_here space number state [] h = rw (no_message state) (sym (ap pending_or_none h))
+take_here space number state (message ∷ pending) h =
+    let link : Link = record { state = state; pending = message ∷ pending } in
+    let rest = ap pending_or_none (changed-there taken space.links number link h) ∙ with_pending (is_open state) state pending in
+    ap (λ l. message ∷ l) (sym rest)
+
+take_found : (space : Space) (number : ℕ) (found : Option Link) → link_at space.links number ≡ found
+    → Takes (pending_of space.links number) (take_step space number found) number
+take_found space number None h = refl
+take_found space number (Some link) h =
+    subst (λ pending. Takes pending (step_from space number link.state link.pending) number) (sym (ap pending_or_none h))
+    (take_here space number link.state link.pending h)
+
+-- on other links the messages stay
+take_apart : (space : Space) (number other : ℕ) (found : Option Link) → other ≢ number
+    → pending_of (take_step space number found).space.links other ≡ pending_of space.links other
+take_apart space number other None n = refl
+take_apart space number other (Some link) n = from_apart link.pending
+  where
+    from_apart : (pending : List (List ℕ)) → pending_of (step_from space number link.state pending).space.links other ≡ pending_of space.links other
+    from_apart [] = refl
+    from_apart (message ∷ pending) = ap pending_or_none (changed-apart taken space.links number other n)
+
+taking : (space : Space) (link number : ℕ) → (link ≡ number) ⊎ (link ≢ number)
+    → pending_of space.links number ≡ taken_by space (call.Take link) number ++ pending_of (step space (call.Take link)).space.links number
+taking space link number (inl e) =
+    let here : (link == number) ≡ true = eq-eqb link number e in
+    rw here (subst (λ k. Takes (pending_of space.links k) (step space (call.Take link)) k) e (take_found space link (link_at space.links link) refl))
+taking space link number (inr n) =
+    let away : (link == number) ≡ false = ne_eqb link number n in
+    rw away (sym (take_apart space link number (link_at space.links link) (λ e. n (sym e))))
+
+-- what waited and what a call sends is what it takes and what waits then
+step_sends : (space : Space) (one : Call) (number : ℕ) → loses (one ∷ []) number ≡ false
+    → pending_of space.links number ++ sent_by space one number ≡ taken_by space one number ++ pending_of (step space one).space.links number
+step_sends space call.NewLink number h =
+    append-nil (pending_of space.links number) ∙ sym (open_same (is_full space.links) space _ _ number refl (opened_pending space.links number))
+step_sends space (call.Deliver link arrived) number h =
+    extends_drop _ _ (on_open_extends (state_of space.links link) space (delivered space link arrived) number (delivered_extends space link arrived number))
+step_sends space (call.End link) number h =
+    append-nil (pending_of space.links number)
+    ∙ sym (on_open_same (state_of space.links link) space (with_links space (changed ended space.links link)) number
+    (pending_changed (λ old new. new ≡ old) (λ p. refl) ended ended_pending space.links link number))
+step_sends space (call.Lost link) number h =
+    append-nil (pending_of space.links number)
+    ∙ sym (on_opened_same (state_of space.links link) space (with_links space (changed lost space.links link)) number
+    (ap pending_or_none (changed-apart lost space.links link number (λ e. apart link number [] h (sym e)))))
+step_sends space (call.Take link) number h = append-nil (pending_of space.links number) ∙ taking space link number (cases_eq link number)
+
+loses_here : (one : Call) (calls : List Call) (number : ℕ) → loses (one ∷ calls) number ≡ false → loses (one ∷ []) number ≡ false
+loses_here call.NewLink calls number h = refl
+loses_here (call.Deliver link arrived) calls number h = refl
+loses_here (call.End link) calls number h = refl
+loses_here (call.Lost link) calls number h = here (link == number) (loses calls number) h
+  where
+    here : (lost' later : Bool) → (if lost' then true else later) ≡ false → (if lost' then true else false) ≡ false
+    here true later e = e
+    here false later e = refl
+loses_here (call.Take link) calls number h = refl
+
+-- what waited and what calls send is what they take and what waits then
+run_sends : (space : Space) (calls : List Call) (number : ℕ) → loses calls number ≡ false
+    → pending_of space.links number ++ sent_from space calls number ≡ taken_from space calls number ++ pending_of (run_from space calls).links number
+run_sends space [] number h = append-nil (pending_of space.links number)
+run_sends space (one ∷ calls) number h =
+    let after = (step space one).space in
+    let first = step_sends space one number (loses_here one calls number h) in
+    let rest = run_sends after calls number (loses_rest one calls number h) in
+    sym (append_assoc (pending_of space.links number) (sent_by space one number) (sent_from after calls number))
+    ∙ ap (λ l. l ++ sent_from after calls number) first
+    ∙ append_assoc (taken_by space one number) (pending_of after.links number) (sent_from after calls number)
+    ∙ ap (λ l. taken_by space one number ++ l) rest
+    ∙ sym (append_assoc (taken_by space one number) (taken_from after calls number) (pending_of (run_from after calls).links number))
+
+-- where no link opened nothing waits
+none_waits : (number : ℕ) → pending_of [] number ≡ []
+none_waits zero = refl
+none_waits (suc place) = ap pending_or_none (link_at-place [] place)
+
+pub sent_taken_waiting : SentTakenWaiting
+sent_taken_waiting name history number h =
+    ap (λ l. l ++ sent_from (empty_space name) history number) (sym (none_waits number)) ∙ run_sends (empty_space name) history number h

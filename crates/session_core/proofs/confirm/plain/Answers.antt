@@ -1,6 +1,0 @@
-use Rattle.session_core.proofs.Plain.{no_fault}
-use Rattle.session_core.proofs.confirm.plain.Goals as goal
-
-pub unreachable-requires-in-Err-NotText : goal.unreachable-requires-in-Err-NotText
-unreachable-requires-in-Err-NotText c =
-    no_fault _ _ _ c.requires c.in-Err-NotText.field-0-is c.in-Err-NotText.ensures.fault

@@ -1,0 +1,119 @@
+-- Worked examples: a node k asks the space X on its first link.
+use Rattle.std.specs.Prelude.{◌≡◌, Bool, true, false, [], ◌∷◌, codes, Some, refl, replicate}
+use Rattle.m3_terms.specs.declared.term.Term.TheVariants.{Uri, Literal}
+use Rattle.m3_terms.specs.declared.triple.Triple.{Triple}
+use Rattle.m3_terms.specs.declared.pattern.Slot.{Slot}
+use Rattle.m3_terms.specs.declared.pattern.Slot.TheVariants.{Any, Is}
+use Rattle.m3_terms.specs.declared.pattern.Pattern.{Pattern}
+use Rattle.link_table.specs.Links.{new_link}
+use Rattle.link_table.specs.declared.state.LinkState.TheVariants.{Gone}
+use Rattle.ssap_items.specs.declared.heads.MessageType as message
+use Rattle.ssap_items.specs.declared.heads.Transaction.{Transaction}
+use Rattle.ssap_items.specs.declared.heads.Transaction as transaction
+use Rattle.ssap_items.specs.declared.heads.Heads.{Heads}
+use Rattle.ssap_shape.specs.declared.status.Status.TheVariants as status
+use Rattle.ssap_shape.specs.declared.request.Ask.{Ask}
+use Rattle.ssap_shape.specs.declared.request.Ask.TheVariants as ask
+use Rattle.ssap_shape.specs.declared.request.Request.{Request}
+use Rattle.ssap_shape.specs.declared.request.Arrived.TheVariants as arrived
+use Rattle.session_core.specs.Space.{Space, empty_space}
+use Rattle.session_core.specs.Requests.{verdict, confirm, confirm_due, done}
+use Rattle.session_core.specs.Steps.{step}
+use Rattle.session_core.specs.declared.call.Call.TheVariants.{NewLink, Deliver, End, Lost, Take}
+use Rattle.session_core.specs.declared.call.Reply.TheVariants.{TooManyLinks, Done, NoLink, Closed, Empty, Over}
+
+-- the heads of what the node k asks of the space X
+abbrev heads : Transaction → Heads
+heads kind = record {
+  message = message.TheVariants.Request;
+  transaction = kind;
+  transaction_id = codes "1";
+  node_id = codes "k";
+  space_id = codes "X";
+}
+
+-- the node k asks this
+abbrev asks : Transaction → Ask → Request
+asks kind what = record { heads = heads kind; ask = what }
+
+-- the lamp is on
+abbrev lamp : Triple
+lamp = record { subject = Uri (codes "lamp"); predicate = Uri (codes "state"); object = Literal (codes "on") }
+
+-- the state of the lamp is this
+abbrev lamp_is : Slot → Pattern
+lamp_is slot = record { subject = Is (Uri (codes "lamp")); predicate = Is (Uri (codes "state")); object = slot }
+
+-- the node k joins
+abbrev join : Request
+join = asks transaction.TheVariants.Join ask.Join
+
+-- the node k leaves
+abbrev leave : Request
+leave = asks transaction.TheVariants.Leave ask.Leave
+
+-- the node k inserts the state of the lamp, and wants a confirm of success or none
+abbrev insert : Slot → Bool → Request
+insert slot wanted = asks transaction.TheVariants.Insert (ask.Update [] (lamp_is slot ∷ []) wanted)
+
+-- that the lamp is on
+abbrev on : Slot
+on = Is (Literal (codes "on"))
+
+-- the space X with one open link, in which nobody joined
+abbrev space : Space
+space = record (empty_space (codes "X")) { links = new_link ∷ [] }
+
+-- a stranger's insert changes nothing, and is told that access is denied
+example_stranger : (done space (insert on true) ≡ space) × (confirm_due space (insert on true) ≡ Some (confirm (heads transaction.TheVariants.Insert) status.AccessDenied))
+example_stranger = (refl, refl)
+
+-- a stranger's insert is told so even where no confirm of success is wanted
+example_denied : confirm_due space (insert on false) ≡ Some (confirm (heads transaction.TheVariants.Insert) status.AccessDenied)
+example_denied = refl
+
+-- a node that joined and inserts a triple twice: two updates, one triple
+example_twice : done (done (done space join) (insert on true)) (insert on true)
+    ≡ record space { joined = codes "k" ∷ []; graph = lamp ∷ []; updates = 2 }
+example_twice = refl
+
+-- where no confirm of success is wanted nothing waits, and no link is told of
+example_silent : step (done space join) (Deliver 1 (arrived.Request (insert on false)))
+    ≡ record { space = record space { joined = codes "k" ∷ []; graph = lamp ∷ []; updates = 1 }; reply = Done [] }
+example_silent = refl
+
+-- who left is a stranger
+example_left : (done (done space join) leave ≡ space) × (verdict (done (done space join) leave) (insert on true) ≡ status.AccessDenied)
+example_left = (refl, refl)
+
+-- a wildcard can't be inserted
+example_wildcard : verdict (done space join) (insert Any true) ≡ status.Request
+example_wildcard = refl
+
+-- what is for another space is told so first
+example_elsewhere : verdict (record space { name = codes "Y" }) (insert Any true) ≡ status.Request
+example_elsewhere = refl
+
+-- a query isn't built
+example_query : verdict (done space join) (asks transaction.TheVariants.Query (ask.Unsubscribe (codes "1"))) ≡ status.NotImplemented
+example_query = refl
+
+-- a message that is no request ends its link, which is told of once
+example_ended : step space (Deliver 1 arrived.NotRequest) ≡ record { space = record space { links = record { state = Gone; pending = [] } ∷ [] }; reply = Done (1 ∷ []) }
+example_ended = refl
+
+-- and then it is closed to messages, and lost without being told of
+example_closed : ((step (step space (End 1)).space (Deliver 1 arrived.NotRequest)).reply ≡ Closed) × ((step (step space (End 1)).space (Lost 1)).reply ≡ Done [])
+example_closed = (refl, refl)
+
+-- no second link has opened
+example_never : ((step space (End 2)).reply ≡ NoLink) × ((step space (Take 2)).reply ≡ NoLink)
+example_never = (refl, refl)
+
+-- no message waits on an open link, and none will come on one that ended
+example_none : ((step space (Take 1)).reply ≡ Empty) × ((step (step space (End 1)).space (Take 1)).reply ≡ Over)
+example_none = (refl, refl)
+
+-- beside 256 links that count no other opens
+example_full : step (record space { links = replicate 256 new_link }) NewLink ≡ record { space = record space { links = replicate 256 new_link }; reply = TooManyLinks 256 }
+example_full = refl
