@@ -9,6 +9,8 @@ pub mod DeliveryLemmas
 pub mod SessionLemmas
 pub mod ReadOnce
 pub mod OutputLemmas
+pub mod Letting
+pub mod OutputsExist
 pub mod ReplayLemmas
 pub mod FaultLemmas
 pub mod FeedLemmas

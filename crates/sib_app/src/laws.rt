@@ -9,6 +9,12 @@ pub fn outputs_are_told()
     ensures output { (name input a b : List ℕ) → IsOutput name input a → IsOutput name input b → a ≡ b }
 {}
 
+/// The entries of a script are taken as some events, and some output is written for the bytes of each input.
+pub fn outputs_exist()
+    ensures events { (name : List ℕ) (entries : List Entry) → (events : List Event) × AreTaken name entries events }
+    ensures output { (name input : List ℕ) → (output : List ℕ) × IsOutput name input output }
+{}
+
 /// The space behind events is the space behind their calls.
 pub fn spaces_are_run()
     ensures { (name : List ℕ) (events : List Event) → space_after name events ≡ run name (history name events) }

@@ -14,5 +14,5 @@ mod tests;
 mod why;
 
 pub use ending::{Ending, INPUT_LIMIT};
-pub use laws::{outputs_are_told, spaces_are_run};
+pub use laws::{outputs_are_told, outputs_exist, spaces_are_run};
 pub use run::sib_run;
