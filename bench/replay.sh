@@ -1,6 +1,7 @@
 #!/usr/bin/env bash
-# Measures the built program on scripts of one JOIN and N INSERTs of 100 distinct triples: the bytes of the script, the
-# seconds, the megabytes a second, and the most memory. The memory must not grow with N. It is no part of the gate.
+# Measures the built program on scripts of one JOIN and N INSERTs of 100 distinct triples over 50 links in turn: the bytes
+# of the script, the seconds, the megabytes a second, and the most memory. The memory must not grow with N. It is no part
+# of the gate.
 cd "$(dirname "$0")/.." || exit 1
 program="crates/sib/out/sib"
 if [ ! -x "$program" ] || [ ! -x /usr/bin/time ]; then
@@ -17,12 +18,13 @@ script() {
             return "<SSAP_message><message_type>REQUEST</message_type><transaction_type>" kind "</transaction_type>" \
                 "<transaction_id>" number "</transaction_id><node_id>k</node_id><space_id>X</space_id>" parameter "</SSAP_message>"
         }
-        function deliver(bytes) { printf ">1 %d\n%s\n", length(bytes), bytes }
+        function deliver(link, bytes) { printf ">%d %d\n%s\n", link, length(bytes), bytes }
         BEGIN {
-            print "+"
-            deliver(message("JOIN", 1, ""))
+            for (i = 0; i < 50; i++)
+                print "+"
+            deliver(1, message("JOIN", 1, ""))
             for (i = 0; i < count; i++)
-                deliver(message("INSERT", i + 2, "<parameter name=\"insert_graph\" encoding=\"RDF-M3\"><triple_list><triple>" \
+                deliver(i % 50 + 1, message("INSERT", i + 2, "<parameter name=\"insert_graph\" encoding=\"RDF-M3\"><triple_list><triple>" \
                     "<subject type=\"uri\">lamp" (i % 100) "</subject><predicate>state</predicate>" \
                     "<object type=\"literal\">on</object></triple></triple_list></parameter>"))
         }'

@@ -41,5 +41,13 @@ for count in 65536 7 1; do
         failed=$((failed + 1))
     fi
 done
+
+# Of 257 links that are asked for, 256 open.
+if yes + | head -n 257 | "$program" replay X | cmp -s - <(printf '!0 256 full\n= 0 0 0\n'); then
+    passed=$((passed + 1))
+else
+    echo "examples: 257 links are answered otherwise"
+    failed=$((failed + 1))
+fi
 echo "examples: $passed passed, $failed failed"
 [ "$failed" -eq 0 ]
