@@ -1,5 +1,5 @@
 -- Why a call to the outside failed, and what it did to the bytes there.
-use Rattle.std.specs.Prelude.{◌≡◌, ℕ, ◌≤◌, List, ◌++◌, MatchResult, OnErr, Option, Result}
+use Rattle.std.specs.Prelude.{◌≡◌, ℕ, ◌≤◌, List, ◌++◌, MatchResult, OnOk, OnErr, Option, Result}
 use Rattle.std.specs.Io.KnownBytes.{Appends}
 use Rattle.m3_terms.specs.Counts.{one_more}
 
@@ -7,10 +7,11 @@ use Rattle.m3_terms.specs.Counts.{one_more}
 abbrev pub Rose : ℕ → ℕ → Type 0
 Rose before now = one_more before ≤ now
 
--- a call fails only where the count rose in it, and the count never falls
+-- a call fails only where the count of faults rose in it, and a call that succeeds counts none; the count never falls
 pub record HasCause {T E : Type 0} (before now : ℕ) (result : Result T E) : Type 0 where
   pub later : before ≤ now
   pub failed : OnErr result (Rose before now)
+  pub kept : OnOk result (now ≡ before)
 
 -- known bytes grow by a front of these
 abbrev pub AppendsPart : Option (List ℕ) → Option (List ℕ) → List ℕ → Type 0

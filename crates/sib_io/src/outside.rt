@@ -1,4 +1,4 @@
-ghost use Rattle.std.specs.Prelude.{List, ℕ, Option};
+ghost use Rattle.std.specs.Prelude.{◌≡◌, List, ℕ, Option, OnOk};
 ghost use Rattle.std.specs.Io.{ReadsAtMost};
 ghost use Rattle.std.specs.Io.KnownBytes.{ReadConsumes, Keeps};
 ghost use Rattle.sib_io.specs.Causes.{HasCause, Writes};
@@ -28,16 +28,21 @@ pub trait Sink {
     /// The bytes that the sink was given, where it tells them.
     ghost given: { Self → Option (List ℕ) };
 
+    /// The bytes that the sink handed on, where it tells them. A sink that gathers bytes keeps the last of them back until it
+    /// is flushed.
+    ghost handed: { Self → Option (List ℕ) };
+
     /// How many calls failed. The count never falls, and stands still at the greatest u64.
     ghost faults: { Self → ℕ };
 
-    /// Appends all of the bytes. After `Failed` a front of them was appended.
+    /// Appends all of the bytes. After `Failed` a prefix of them was appended.
     fn write_all(&mut self, bytes: &[u8]) -> Result<(), Failed>
         ensures bytes { Writes (given self.old) (given self.new) result bytes.now }
         ensures cause { HasCause (faults self.old) (faults self.new) result };
 
-    /// Hands on what was kept back. It appends nothing.
+    /// Hands on what was kept back: after `Ok` all that the sink was given is handed on. It appends nothing.
     fn flush(&mut self) -> Result<(), Failed>
         ensures bytes { Keeps (given self.old) (given self.new) }
+        ensures handed { OnOk result (handed self.new ≡ given self.new) }
         ensures cause { HasCause (faults self.old) (faults self.new) result };
 }

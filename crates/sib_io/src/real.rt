@@ -53,6 +53,8 @@ impl<W: Write + Drop> StdSink<W> {
 impl<W: Write + Drop> Sink for StdSink<W> {
     ghost given = { λ s. W.contents s.inner };
 
+    ghost handed = { λ s. W.contents s.inner };
+
     ghost faults = { λ s. s.faults };
 
     fn write_all(&mut self, bytes: &[u8]) -> Result<(), Failed> {

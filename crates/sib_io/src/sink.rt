@@ -68,6 +68,8 @@ impl MemSink {
 impl Sink for MemSink {
     ghost given = { λ s. Some s.bytes };
 
+    ghost handed = { λ s. Some s.bytes };
+
     ghost faults = { λ s. s.plan.faults };
 
     fn write_all(&mut self, bytes: &[u8]) -> Result<(), Failed>
@@ -91,6 +93,7 @@ impl Sink for MemSink {
 
     fn flush(&mut self) -> Result<(), Failed>
         ensures bytes { Keeps (Some self.old.bytes) (Some self.new.bytes) }
+        ensures handed { OnOk result (Some self.new.bytes ≡ Some self.new.bytes) }
         ensures cause { HasCause self.old.plan.faults self.new.plan.faults result }
         ensures exact { FlushesFilled (fails_next self.old.plan) self.old result self.new }
     {

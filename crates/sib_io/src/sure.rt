@@ -59,6 +59,8 @@ impl SureSink {
 impl Sink for SureSink {
     ghost given = { λ _. None };
 
+    ghost handed = { λ _. None };
+
     ghost faults = { λ _. 0 };
 
     fn write_all(&mut self, _bytes: &[u8]) -> Result<(), Failed> {
