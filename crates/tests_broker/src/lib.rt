@@ -1,0 +1,2 @@
+//! Tests of the space and of the commands.
+#![tactic(auto)]

@@ -1,0 +1,2 @@
+//! Tests of the lowest crates: texts and terms, sources and sinks, links, scripts.
+#![tactic(auto)]
