@@ -203,7 +203,7 @@ parameter_written v h =
     element_written (codes "parameter") (attribute (codes "name") v.name ++ encoding_spelling v.encoding) (body_spelling v.body)
     (parameter_attributes_written v.name v.encoding h.name h.encoding) (body_written v.body h.body)
 
--- items
+-- items, as they are written
 item_spelling : Item → List ℕ
 item_spelling (MessageTypeItem v) = element (codes "message_type") (message_word v)
 item_spelling (TransactionTypeItem v) = element (codes "transaction_type") (transaction_word v)
@@ -212,7 +212,8 @@ item_spelling (NodeIdItem v) = element (codes "node_id") (escaped v)
 item_spelling (SpaceIdItem v) = element (codes "space_id") (escaped v)
 item_spelling (ParameterItem v) = parameter_spelling v
 
-IsSayableItem : Item → Type 0
+-- an item is sayable
+unfoldable pub IsSayableItem : Item → Type 0
 IsSayableItem (MessageTypeItem v) = Unit {0}
 IsSayableItem (TransactionTypeItem v) = Unit {0}
 IsSayableItem (TransactionIdItem v) = IsText v

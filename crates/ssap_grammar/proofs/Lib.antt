@@ -16,3 +16,5 @@ pub mod CanonicalTexts
 pub mod CanonicalMessages
 pub mod StreamParts
 pub mod VectorReadings
+pub mod SpelledTexts
+pub mod SpelledIsSayable

@@ -1,8 +1,8 @@
--- Ways to read the front of some bytes. Each production of the grammar is a relation between bytes and what is left
--- of them once the production was read, for one value that it spells.
+-- Readings of a prefix. Each production of the grammar relates bytes to the rest behind what it reads, for one value
+-- that it spells.
 use Rattle.std.specs.Prelude.{◌≡◌, ◌⊎◌, ℕ, List, [], ◌∷◌, ◌++◌, Option, Some, None}
 
--- a relation between bytes and what is left of them
+-- a relation between bytes and the rest behind what is read
 abbrev pub Front : Type 1
 Front = List ℕ → List ℕ → Type 0
 

@@ -7,7 +7,7 @@ use Rattle.ssap_grammar.specs.Sayable.{IsSayable}
 use Rattle.ssap_grammar.specs.Message.{ReadsMessage, Spells}
 use Rattle.ssap_grammar.specs.Stream.{Placed, Stream, IsViable, IsPlace, IsWhole, IsWholeOf, AreMessages, IsInside}
 
--- bytes begin with at most one message, which ends at one place
+-- bytes begin with at most one message, which ends at one offset
 abbrev pub MessagesAreTold : Type 0
 MessagesAreTold = (bytes rest left : List ℕ) (envelope other : Envelope) → ReadsMessage envelope bytes rest
     → ReadsMessage other bytes left → (envelope ≡ other) × (rest ≡ left)
@@ -16,11 +16,11 @@ MessagesAreTold = (bytes rest left : List ℕ) (envelope other : Envelope) → R
 abbrev pub SpellsOnce : Type 0
 SpellsOnce = (bytes : List ℕ) (envelope other : Envelope) → Spells bytes envelope → Spells bytes other → envelope ≡ other
 
--- no spelling is a proper front of another
+-- no spelling is a proper prefix of another
 abbrev pub NoneBegins : Type 0
 NoneBegins = (bytes more : List ℕ) (envelope other : Envelope) → Spells bytes envelope → Spells (bytes ++ more) other → more ≡ []
 
--- bytes are a stream of at most one list of messages, at one place each
+-- bytes are a stream of at most one list of messages, at one offset each
 abbrev pub StreamsOnce : Type 0
 StreamsOnce = (bytes : List ℕ) (messages others : List Placed) → Stream bytes messages → Stream bytes others → messages ≡ others
 
@@ -71,10 +71,19 @@ abbrev pub CanonicalStays : Type 0
 CanonicalStays = (envelope other : Envelope) → IsSayable envelope → Spells (canonical envelope) other
     → (other ≡ envelope) × (canonical other ≡ canonical envelope)
 
--- bytes have one place, one whole and one list of messages
+-- what bytes spell is sayable
+abbrev pub SpellingsAreSayable : Type 0
+SpellingsAreSayable = (bytes : List ℕ) (envelope : Envelope) → Spells bytes envelope → IsSayable envelope
+
+-- so whatever bytes spell is spelled canonically too
+abbrev pub SpellingsAreCanonical : Type 0
+SpellingsAreCanonical = (bytes : List ℕ) (envelope : Envelope) → Spells bytes envelope → Spells (canonical envelope) envelope
+
+-- the longest viable prefix of bytes has one length
 abbrev pub PlacesOnce : Type 0
 PlacesOnce = (bytes : List ℕ) (m n : ℕ) → IsPlace bytes m → IsPlace bytes n → m ≡ n
 
+-- so has the longest prefix that is a stream
 abbrev pub WholesOnce : Type 0
 WholesOnce = (bytes : List ℕ) (m n : ℕ) → IsWhole bytes m → IsWhole bytes n → m ≡ n
 
@@ -82,7 +91,7 @@ WholesOnce = (bytes : List ℕ) (m n : ℕ) → IsWhole bytes m → IsWhole byte
 abbrev pub StreamsAreWhole : Type 0
 StreamsAreWhole = (bytes : List ℕ) (messages : List Placed) → Stream bytes messages → IsWholeOf bytes (length bytes) messages
 
--- the bytes are the front of the spelling of a message, and not all of it
+-- the bytes are a proper prefix of the spelling of a message
 abbrev pub IsPart : List ℕ → Type 0
 IsPart part = (more : List ℕ) × (envelope : Envelope) × (0 < length more) × Spells (part ++ more) envelope
 
@@ -96,7 +105,7 @@ pub record IsDeadEnd (part : List ℕ) (byte : ℕ) : Type 0 where
   pub solid : (0 < length part) ⊎ (¬ (IsWhite byte))
   pub none : (more : List ℕ) (envelope : Envelope) → ¬ (Spells (part ++ byte ∷ more) envelope)
 
--- so no stream goes on with it, and the place is where it stands, whatever follows
+-- so no stream goes on with it, and the longest viable prefix ends before it, whatever follows
 abbrev pub DeadEnds : Type 0
 DeadEnds = (bytes part more : List ℕ) (byte : ℕ) (messages : List Placed) → Stream bytes messages → IsPart part → IsDeadEnd part byte
     → ¬ (IsViable (bytes ++ (part ++ byte ∷ []))) × IsPlace (bytes ++ (part ++ byte ∷ more)) (length (bytes ++ part))

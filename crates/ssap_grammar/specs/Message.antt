@@ -72,7 +72,7 @@ abbrev pub parameter_of : Item → List Param
 parameter_of (ParameterItem value) = value ∷ []
 parameter_of _ = []
 
--- among the items each head stands exactly once, in any place, and these are the parameters in their order
+-- among the items each head stands exactly once, in any order, and these are the parameters in theirs
 pub record Holds (items : List Item) (envelope : Envelope) : Type 0 where
   pub message : flat_map message_type_of items ≡ envelope.heads.message ∷ []
   pub transaction : flat_map transaction_type_of items ≡ envelope.heads.transaction ∷ []

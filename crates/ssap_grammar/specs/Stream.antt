@@ -1,4 +1,4 @@
--- Streams: messages one after another with white space around them, and the places where they begin and end.
+-- Streams: messages one after another with white space around them, and the offsets where they begin and end.
 use Rattle.std.specs.Prelude.{◌≡◌, ℕ, ◌+◌, ◌≤◌, List, [], ◌∷◌, ◌++◌, length, take}
 use Rattle.ssap_items.specs.declared.envelope.Envelope.{Envelope}
 use Rattle.ssap_grammar.specs.Characters.{Spaces}
@@ -31,27 +31,27 @@ pub record Stream (bytes : List ℕ) (messages : List Placed) : Type 0 where
   pub spaces : Spaces bytes first
   pub reads : Messages (length bytes) messages first
 
--- the bytes are the front of some stream
+-- the bytes are a prefix of some stream
 abbrev pub IsViable : List ℕ → Type 0
 IsViable bytes = (more : List ℕ) × (messages : List Placed) × Stream (bytes ++ more) messages
 
--- place is the length of the longest front of the bytes that is viable
+-- place is the length of the longest viable prefix of the bytes
 pub record IsPlace (bytes : List ℕ) (place : ℕ) : Type 0 where
   pub within : place ≤ length bytes
   pub viable : IsViable (take place bytes)
   pub longest : (n : ℕ) → n ≤ length bytes → IsViable (take n bytes) → n ≤ place
 
--- whole is the length of the longest front of the bytes that is a stream, of these messages
+-- whole is the length of the longest prefix of the bytes that is a stream, of these messages
 pub record IsWholeOf (bytes : List ℕ) (whole : ℕ) (messages : List Placed) : Type 0 where
   pub within : whole ≤ length bytes
   pub stream : Stream (take whole bytes) messages
   pub longest : (n : ℕ) (others : List Placed) → n ≤ length bytes → Stream (take n bytes) others → n ≤ whole
 
--- whole is the length of the longest front of the bytes that is a stream
+-- whole is the length of the longest prefix of the bytes that is a stream
 abbrev pub IsWhole : List ℕ → ℕ → Type 0
 IsWhole bytes whole = (messages : List Placed) × IsWholeOf bytes whole messages
 
--- these are the messages of the bytes: those of the longest front that is a stream
+-- these are the messages of the bytes: those of the longest prefix that is a stream
 abbrev pub AreMessages : List ℕ → List Placed → Type 0
 AreMessages bytes messages = (whole : ℕ) × IsWholeOf bytes whole messages
 

@@ -1,22 +1,28 @@
 //! Laws of the grammar. Each function does nothing: its contract is the law.
 
 ghost use Rattle.ssap_grammar.specs.Examples.{EitherQuote, QuotesAgree, EmptyText, NoSpaceInEnd, NoEmptyWord, CdataSection, NoSmallCdata, ReferenceInText, NoCapitalReference, SpacesInTags, NoSpaceBeforeName, BlankText, OneName, OneMessage, OneNodeId};
-ghost use Rattle.ssap_grammar.specs.Laws.{MessagesAreTold, SpellsOnce, NoneBegins, CanonicalSpells, CanonicalStays, MessagesAreSpelled, SpellingsAreRead, StreamsOnce, MessagesStay, SpacesAddNone, MessagesAddOne, UnfinishedBegins, PlacesOnce, WholesOnce, StreamsAreWhole, PartsAreInside, DeadEnds};
+ghost use Rattle.ssap_grammar.specs.Laws.{MessagesAreTold, SpellsOnce, NoneBegins, CanonicalSpells, CanonicalStays, SpellingsAreSayable, SpellingsAreCanonical, MessagesAreSpelled, SpellingsAreRead, StreamsOnce, MessagesStay, SpacesAddNone, MessagesAddOne, UnfinishedBegins, PlacesOnce, WholesOnce, StreamsAreWhole, PartsAreInside, DeadEnds};
 ghost use Rattle.ssap_grammar.specs.Stream.{Stream};
 ghost use Rattle.ssap_grammar.specs.Vectors.{JoinRequest, JoinCanonical, IndicationCanonical};
 ghost use Rattle.std.specs.Prelude.{[]};
 
-/// Bytes are read as a message in one way, and no message is the front of another.
+/// Bytes are read as a message in one way, and no message is a proper prefix of another.
 pub fn one_reading()
     ensures told { MessagesAreTold }
     ensures once { SpellsOnce }
     ensures begins { NoneBegins }
 {}
 
-/// What is written canonically is read again, and what is read back is written as it was.
+/// What is written canonically is read as the same envelope.
 pub fn canonical_spells()
     ensures spells { CanonicalSpells }
     ensures stays { CanonicalStays }
+{}
+
+/// Whatever is read can be written: it has no subject that is a literal, and its canonical spelling is read as it.
+pub fn spellings_are_sayable()
+    ensures sayable { SpellingsAreSayable }
+    ensures canonical { SpellingsAreCanonical }
 {}
 
 /// A message is some bytes of its own, and what follows has no part in it.
@@ -25,7 +31,7 @@ pub fn messages_are_spelled()
     ensures read { SpellingsAreRead }
 {}
 
-/// The messages of a stream are told from its bytes, and stay as more bytes follow.
+/// The bytes of a stream determine its messages, which stay as more bytes follow.
 pub fn messages_stay()
     ensures once { StreamsOnce }
     ensures stay { MessagesStay }
@@ -43,15 +49,15 @@ pub fn unfinished_begins()
     ensures { UnfinishedBegins }
 {}
 
-/// Bytes have one place and one whole, and a stream is whole.
+/// The longest viable prefix of bytes has one length, and so has the longest that is a stream. A stream is whole.
 pub fn places_are_told()
     ensures places { PlacesOnce }
     ensures wholes { WholesOnce }
     ensures streams { StreamsAreWhole }
 {}
 
-/// A stream and a part of a message behind it are viable up to a byte with which no message goes on, and there is their
-/// place.
+/// A stream and a part of a message behind it end inside that message. Where no message goes on with the next byte, the
+/// longest viable prefix ends before it.
 pub fn parts_are_inside()
     ensures inside { PartsAreInside }
     ensures dead_ends { DeadEnds }

@@ -6,5 +6,6 @@ mod laws;
 
 pub use laws::{
     canonical_spells, messages_are_spelled, messages_stay, one_reading, parts_are_inside,
-    places_are_told, streams_grow, unfinished_begins, vectors, worked_examples,
+    places_are_told, spellings_are_sayable, streams_grow, unfinished_begins, vectors,
+    worked_examples,
 };

@@ -1,6 +1,6 @@
 -- The canonical spelling of an envelope: no declaration, no white space between items and tags, double
 -- quotes, the heads first in one order, and then the parameters in theirs.
-use Rattle.std.specs.Prelude.{ℕ, ◌==◌, if◌then◌else◌, List, [], ◌∷◌, ◌++◌, flat_map, Option, Some, None, codes}
+use Rattle.std.specs.Prelude.{◌≡◌, ℕ, ◌==◌, if◌then◌else◌, List, [], ◌∷◌, ◌++◌, flat_map, Option, Some, None, codes, refl}
 use Rattle.ssap_items.specs.declared.heads.MessageType.{MessageType}
 use Rattle.ssap_items.specs.declared.heads.MessageType.TheVariants.{Request, Confirm, Indication}
 use Rattle.ssap_items.specs.declared.heads.Transaction.{Transaction}
@@ -32,6 +32,11 @@ escaped_byte b =
 -- a text, or an attribute's value, as it is written
 unfoldable pub escaped : List ℕ → List ℕ
 escaped text = flat_map escaped_byte text
+
+-- a `<` is written as a reference, and a `'` as it is
+less_is_escaped : escaped (codes "a<'b") ≡ codes "a&lt;'b"
+unfolding escaped
+less_is_escaped = refl
 
 -- an attribute, with the space before it
 unfoldable pub attribute : List ℕ → List ℕ → List ℕ

@@ -1,5 +1,5 @@
 -- The tags of a message, and sets of them.
-use Rattle.std.specs.Prelude.{◌≡◌, ℕ, true, false, List, ◌++◌, get_or, codes}
+use Rattle.std.specs.Prelude.{◌≡◌, ℕ, true, false, List, ◌++◌, get_or, codes, refl}
 use Rattle.ssap_items.specs.declared.tags.TagName.{TagName}
 use Rattle.ssap_items.specs.declared.tags.TagName.TheVariants.{MessageType, TransactionType, TransactionId, NodeId, SpaceId, Parameter, TripleList, Triple, Subject, Predicate, Object, Sparql, Head, Variable, Results, Result, Binding, Uri, Literal, Bnode, SsapMessage}
 use Rattle.ssap_items.specs.declared.tags.Tag.{Tag}
@@ -30,7 +30,7 @@ tag_name Literal = codes "literal"
 tag_name Bnode = codes "bnode"
 tag_name SsapMessage = codes "SSAP_message"
 
--- the place of a name among all names
+-- the number of a name among all names
 unfoldable pub tag_number : TagName → ℕ
 tag_number MessageType = 0
 tag_number TransactionType = 1
@@ -58,6 +58,11 @@ tag_number SsapMessage = 20
 unfoldable pub tag_spelling : Tag → List ℕ
 tag_spelling (Start name) = tag_name name
 tag_spelling (Finish name) = codes "/" ++ tag_name name
+
+-- a finishing tag has a slash before its name
+bnode_finishes : tag_spelling (Finish Bnode) ≡ codes "/bnode"
+unfolding tag_spelling tag_name
+bnode_finishes = refl
 
 -- the word begins with the prefix
 abbrev pub BeginsWith : List ℕ → List ℕ → Type 0

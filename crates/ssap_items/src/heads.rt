@@ -1,6 +1,6 @@
 use m3_terms::Text;
 
-/// What a message is: asked by a processor, answered to it, or told to it unasked.
+/// What a message is: a processor's request, the confirm of one, or an indication that no request asks for.
 #[derive(Clone, Copy, Debug, PartialEq, Eq)]
 pub enum MessageType {
     Request,

@@ -82,7 +82,7 @@ impl TagName {
         }
     }
 
-    /// The place of the name among all names.
+    /// The number of the name among all names.
     #[tactic(auto, unfolding(crate::specs::Tags::tag_number))]
     fn number(self) -> usize
         ensures value { result ≡ tag_number self }
@@ -234,44 +234,5 @@ impl Tags {
         ensures { IsTrue result ↔ (Has self.now tag × (word.now ≡ tag_spelling tag)) }
     {
         self.contains(tag) && tag.is_written(word)
-    }
-}
-
-#[cfg(test)]
-mod tests {
-    use super::*;
-    use std::test::Fail;
-
-    #[test]
-    fn tags_are_found_by_their_whole_names(rt: HostRuntime) -> Result<(), Fail> {
-        let tags = Tags::none()
-            .with(Tag::Start(TagName::Results))
-            .with(Tag::Start(TagName::Result))
-            .with(Tag::Finish(TagName::SsapMessage));
-        assert_eq!(rt; tags.find(b"result"), Some(Tag::Start(TagName::Result)));
-        assert_eq!(rt; tags.find(b"results"), Some(Tag::Start(TagName::Results)));
-        assert_eq!(rt;
-            tags.find(b"/SSAP_message"),
-            Some(Tag::Finish(TagName::SsapMessage))
-        );
-        assert_eq!(rt; tags.find(b"/result"), None);
-        assert_eq!(rt; tags.find(b"resul"), None);
-        Ok(())
-    }
-
-    #[test]
-    fn fronts_of_tags_are_viable(rt: HostRuntime) -> Result<(), Fail> {
-        let tags = Tags::none()
-            .with(Tag::Start(TagName::Triple))
-            .with(Tag::Finish(TagName::TripleList));
-        assert!(rt; tags.viable(b""));
-        assert!(rt; tags.viable(b"trip"));
-        assert!(rt; tags.viable(b"/triple_list"));
-        assert!(rt; !tags.viable(b"triple_"));
-        assert!(rt; !tags.viable(b"/triples"));
-        assert!(rt; !Tags::none().viable(b""));
-        assert!(rt; tags.contains(Tag::Start(TagName::Triple)));
-        assert_eq!(rt; TagName::Bnode.as_bytes(), b"bnode".as_slice());
-        Ok(())
     }
 }
