@@ -2,4 +2,5 @@ pub mod Lists
 pub mod TextFronts
 pub mod TextHad
 pub mod TextLaws
+pub mod PlainRuns
 pub mod Starts

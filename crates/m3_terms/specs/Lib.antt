@@ -3,6 +3,7 @@ pub mod Text
 pub mod Term
 pub mod Order
 pub mod OrderLaws
+pub mod Hashed
 pub mod Pattern
 pub mod TermTable
 pub mod Inserted

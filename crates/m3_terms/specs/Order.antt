@@ -63,9 +63,9 @@ row_eq = pointwise cell_eq
 uri_first : term_cmp (Uri (98 ∷ [])) (Literal (97 ∷ [])) ≡ Less
 uri_first = refl
 
--- a text comes after each of its fronts
-front_first : term_cmp (Literal (97 ∷ 98 ∷ [])) (Literal (97 ∷ [])) ≡ Greater
-front_first = refl
+-- a text comes after each of its prefixes
+prefix_first : term_cmp (Literal (97 ∷ 98 ∷ [])) (Literal (97 ∷ [])) ≡ Greater
+prefix_first = refl
 
 -- a row with an unbound cell comes before one with a term there
 unbound_first : row_cmp (Some (Uri (97 ∷ [])) ∷ None ∷ []) (Some (Uri (97 ∷ [])) ∷ Some (Uri (97 ∷ [])) ∷ []) ≡ Less

@@ -7,12 +7,12 @@ use Rattle.m3_terms.specs.declared.pattern.Slot.{Slot}
 use Rattle.m3_terms.specs.declared.pattern.Slot.TheVariants.{Any, Is}
 use Rattle.m3_terms.specs.declared.pattern.Pattern.{Pattern}
 
--- a place of a pattern admits each term where it is the wildcard, and else its own term alone
+-- a slot admits each term where it is the wildcard, and else its own term alone
 abbrev pub Admits : Slot → Term → Type 0
 Admits Any term = ⊤
 Admits (Is wanted) term = wanted ≡ term
 
--- a triple fits a pattern where each place admits the term in that place
+-- a triple fits a pattern where each slot admits the term in its position
 pub record Fits (pattern : Pattern) (triple : Triple) : Type 0 where
   pub subject : Admits pattern.subject triple.subject
   pub predicate : Admits pattern.predicate triple.predicate
@@ -26,7 +26,7 @@ any_literal = tt
 own_subject : (t : Triple) → Fits (record { subject = Is t.subject; predicate = Any; object = Any }) t
 own_subject t = record { subject = refl; predicate = tt; object = tt }
 
--- the term of a place: none where the place is the wildcard
+-- the term of a slot: none where it is the wildcard
 abbrev pub term_of : Slot → Option Term
 term_of Any = None
 term_of (Is term) = Some term

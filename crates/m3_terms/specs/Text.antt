@@ -14,11 +14,15 @@ is_allowed c = c == 9 || c == 10 || c == 13 || (nat_le 0x20 c && nat_le c 0xD7FF
 abbrev pub IsAllowed : ℕ → Type 0
 IsAllowed c = IsTrue (is_allowed c)
 
+-- a byte is an allowed character by itself, so one of ASCII
+abbrev pub is_plain : ℕ → Bool
+is_plain b = b == 9 || b == 10 || b == 13 || (nat_le 0x20 b && nat_le b 0x7F)
+
 -- the bytes are the UTF-8 of some allowed characters
 abbrev pub IsText : List ℕ → Type 0
 IsText bytes = (characters : List ℕ) × AllByRecursion IsAllowed characters × (encode_utf8_all characters ≡ bytes)
 
--- the longest front of the bytes that is a text ends at place, and is not the whole
+-- the longest prefix of the bytes that is a text ends before place, and is not the whole
 pub record FailsAt (bytes : List ℕ) (place : ℕ) : Type 0 where
   pub within : place < length bytes
   pub text : IsText (take place bytes)

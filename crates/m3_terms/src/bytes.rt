@@ -56,26 +56,28 @@ impl Bytes {
         self.items.as_slice()
     }
 
+    /// How many bytes there are.
     pub fn len(&self) -> usize
         ensures { result ≡ length self.now }
     {
         self.items.len()
     }
 
+    /// Whether there is no byte.
     pub fn is_empty(&self) -> bool
         ensures { IsTrue result ↔ (self.now ≡ []) }
     {
         self.items.is_empty()
     }
 
-    /// The byte at a place, counted from 0.
+    /// The byte at an offset, or `None` from the end on.
     pub fn get(&self, at: usize) -> Option<&u8>
         ensures { option_copied result ≡ slice_get self.now at }
     {
         self.items.get(at)
     }
 
-    /// Puts a byte at the end.
+    /// Appends a byte. After `NoMemory` the bytes are unchanged.
     pub fn push(&mut self, item: u8) -> Result<(), NoMemory>
         ensures ok { OnOk result (self.new ≡ self.old ++ item ∷ []) }
         ensures err { OnErr result (self.new ≡ self.old) }

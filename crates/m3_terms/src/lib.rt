@@ -1,11 +1,13 @@
-//! Texts, terms and triples: the facts that programs of one place share.
+//! Texts, terms and triples: the facts that the programs of one space share.
 #![tactic(auto)]
 
 mod bytes;
+mod hash;
 mod items;
 mod memory;
 mod order;
 mod pattern;
+mod plain;
 mod steps;
 mod table;
 mod term;
@@ -21,6 +23,3 @@ pub use table::{TermId, TermTable};
 pub use term::{TERM_LIMIT, Term, TermFault};
 pub use text::{Text, text_len};
 pub use triple::Triple;
-
-#[cfg(test)]
-mod tests;

@@ -1,6 +1,6 @@
 use std::alloc::{AllocError, AllocFailed};
 
-/// The system gave no memory.
+/// Out of memory: the allocator refused.
 #[derive(Clone, Copy, Debug, PartialEq, Eq)]
 pub struct NoMemory;
 

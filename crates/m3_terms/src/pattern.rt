@@ -3,14 +3,14 @@ ghost use Rattle.m3_terms.specs.Pattern.{Admits, Fits, term_of, triple_of};
 
 use crate::{NoMemory, Term, Triple};
 
-/// A place of a pattern: the wildcard, or a term.
+/// One position of a pattern: the wildcard, or a term.
 #[derive(Debug, Drop)]
 pub enum Slot {
     Any,
     Is(Term),
 }
 
-/// A pattern: each place is the wildcard or a term.
+/// A pattern of triples: each position is the wildcard or a term.
 #[derive(Debug, Drop)]
 pub struct Pattern {
     pub subject: Slot,
@@ -19,7 +19,7 @@ pub struct Pattern {
 }
 
 impl Slot {
-    /// Whether this place is the wildcard or the term.
+    /// Whether this slot is the wildcard or the term.
     pub fn admits(&self, term: &Term) -> bool
         ensures { IsTrue result ↔ Admits self.now term.now }
     {
@@ -29,7 +29,7 @@ impl Slot {
         }
     }
 
-    /// The term of this place, or `None` where it is the wildcard.
+    /// The term of this slot, or `None` where it is the wildcard.
     pub fn into_term(self) -> Option<Term>
         ensures { result ≡ term_of self }
     {
@@ -52,7 +52,7 @@ impl Slot {
 }
 
 impl Pattern {
-    /// Whether each place is the wildcard or the triple's term in that place.
+    /// Whether each position is the wildcard or the triple's term there.
     pub fn fits(&self, triple: &Triple) -> bool
         ensures { IsTrue result ↔ Fits self.now triple.now }
     {
@@ -61,8 +61,8 @@ impl Pattern {
             && self.object.admits(&triple.object)
     }
 
-    /// The triple that this pattern is, or `None` where a place is the wildcard or the subject or the predicate is a
-    /// literal.
+    /// The triple that this pattern is, or `None` where a position is the wildcard or the subject or the predicate is
+    /// a literal.
     pub fn into_triple(self) -> Option<Triple>
         ensures { result ≡ triple_of self }
     {

@@ -25,10 +25,10 @@ pub enum TermFault {
     /// A term's text has at most 4,096 bytes.
     #[error("a term of {length} bytes")]
     TooLong { length: usize },
-    /// The bytes before `place` are the longest front made of whole allowed characters.
+    /// The bytes before `place` are the longest prefix made of whole allowed characters.
     #[error("no allowed character at byte {place}")]
     NotText { place: usize },
-    /// The system gave no memory.
+    /// Out of memory.
     #[error("out of memory")]
     NoMemory,
 }
@@ -81,6 +81,7 @@ impl Term {
         Text::read(alloc, bytes)
     }
 
+    /// Whether the term is a uri.
     pub fn is_uri(&self) -> bool
         ensures { IsTrue result ↔ IsUri self.now }
     {
@@ -90,7 +91,7 @@ impl Term {
         }
     }
 
-    /// An equal term.
+    /// An equal term, in memory of its own.
     pub fn copy(&self) -> Result<Term, crate::NoMemory>
         ensures { IfOk result (λ term. term ≡ self.now) }
     {

@@ -1,6 +1,7 @@
 ghost use Rattle.std.specs.Prelude.{◌≡◌, List, ℕ, ◌≤◌, length, take, IfOk, IfErr, IsTrue, ◌↔◌, [], slice_get, option_copied, not};
 ghost use Rattle.m3_terms.specs.Text.{IsText, TextFault, is_allowed};
 
+use crate::plain::plain_len;
 use crate::{NoMemory, TermFault};
 use std::alloc::Global;
 use std::marker::Model;
@@ -32,7 +33,7 @@ fn is_refused(character: char) -> bool
     )
 }
 
-/// The length of the longest front of a text in UTF-8 in which each character is allowed.
+/// The length of the longest prefix of a text in UTF-8 in which each character is allowed.
 fn allowed_len(text: &str) -> usize
     ensures within { result ≤ length text.now }
     ensures text { IsText (take result text.now) }
@@ -44,8 +45,8 @@ fn allowed_len(text: &str) -> usize
     }
 }
 
-/// The length of the longest front of the bytes that is a text, so made of whole allowed characters.
-pub fn text_len(bytes: &[u8]) -> usize
+/// The length of the longest prefix of the bytes that is a text, decoded character by character.
+fn decoded_len(bytes: &[u8]) -> usize
     ensures within { result ≤ length bytes.now }
     ensures text { IsText (take result bytes.now) }
     ensures longest { (n : ℕ) → n ≤ length bytes.now → IsText (take n bytes.now) → n ≤ result }
@@ -56,8 +57,20 @@ pub fn text_len(bytes: &[u8]) -> usize
     }
 }
 
+/// The length of the longest prefix of the bytes that is a text, so made of whole allowed characters. A run of ASCII
+/// at the start is skipped a block at a time, and only what follows it is decoded.
+pub fn text_len(bytes: &[u8]) -> usize
+    ensures within { result ≤ length bytes.now }
+    ensures text { IsText (take result bytes.now) }
+    ensures longest { (n : ℕ) → n ≤ length bytes.now → IsText (take n bytes.now) → n ≤ result }
+{
+    let plain = plain_len(bytes);
+    plain + decoded_len(&bytes[plain..])
+}
+
 impl Text {
-    /// The text of these bytes. `NotText` has the length of the longest front that is made of whole allowed characters.
+    /// The text of these bytes, which are tested once and copied once. `NotText` has the length of the longest prefix
+    /// made of whole allowed characters.
     pub fn read(alloc: Global, bytes: &[u8]) -> Result<Text, TermFault>
         ensures ok { IfOk result (λ text. (text ≡ bytes.now) × IsText bytes.now) }
         ensures fault { IfErr result (TextFault bytes.now) }
@@ -86,20 +99,21 @@ impl Text {
         self.bytes.len()
     }
 
+    /// Whether the text has no byte.
     pub fn is_empty(&self) -> bool
         ensures { IsTrue result ↔ (self.now ≡ []) }
     {
         self.bytes.is_empty()
     }
 
-    /// The byte at a place, counted from 0.
+    /// The byte at an offset, or `None` from the end on.
     pub fn get(&self, at: usize) -> Option<&u8>
         ensures { option_copied result ≡ slice_get self.now at }
     {
         self.bytes.get(at)
     }
 
-    /// An equal text.
+    /// An equal text, in memory of its own.
     pub fn copy(&self) -> Result<Text, NoMemory>
         ensures { IfOk result (λ text. text ≡ self.now) }
     {
