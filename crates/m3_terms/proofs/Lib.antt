@@ -4,3 +4,4 @@ pub mod TextHad
 pub mod TextLaws
 pub mod PlainRuns
 pub mod Starts
+pub mod OrderedKeys
