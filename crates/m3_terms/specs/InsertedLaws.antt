@@ -31,12 +31,12 @@ module _ {K : Type 0} {R : K → K → Ordering} (o : IsTotalOrder R) where
   all_above k x (y ∷ ys) h t = (o.trans k x y h t.0, all_above k x ys h t.1)
 
   -- of keys above a key, none is below it
-  none_below : (k : K) (xs : List K) → AllByRecursion (λ y. R k y ≡ Less) xs → filter (λ y. is_lt (R y k)) xs ≡ []
+  pub none_below : (k : K) (xs : List K) → AllByRecursion (λ y. R k y ≡ Less) xs → filter (λ y. is_lt (R y k)) xs ≡ []
   none_below k [] t = refl
   none_below k (y ∷ ys) t = rw (above k y t.0) (none_below k ys t.1)
 
   -- of keys above a key, all are above it
-  each_above : (k : K) (xs : List K) → AllByRecursion (λ y. R k y ≡ Less) xs → filter (λ y. is_gt (R y k)) xs ≡ xs
+  pub each_above : (k : K) (xs : List K) → AllByRecursion (λ y. R k y ≡ Less) xs → filter (λ y. is_gt (R y k)) xs ≡ xs
   each_above k [] t = refl
   each_above k (y ∷ ys) t = rw (above k y t.0) (ap (λ l. y ∷ l) (each_above k ys t.1))
 
