@@ -1,2 +1,5 @@
 //! Tests of the lowest crates: texts and terms, sources and sinks, links, scripts.
 #![tactic(auto)]
+
+#[cfg(test)]
+mod algebra;

@@ -1,0 +1,3 @@
+/// A variable of a query, by its number. A query has at most 16 variables, so the number is below 16.
+#[derive(Clone, Copy, Debug, PartialEq, Eq, PartialOrd, Ord, Hash)]
+pub struct Var(pub u8);
