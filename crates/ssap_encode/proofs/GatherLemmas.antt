@@ -1,5 +1,5 @@
 -- What a sink is given of bytes that are gathered for it.
-use Rattle.std.proofs.Common.{◌≡◌, ◌∙◌, sym, ap, subst, ℕ, ◌≤◌, List, [], ◌++◌, Option, append-nil}
+use Rattle.std.proofs.Common.{◌≡◌, ◌∙◌, sym, ap, subst, ℕ, ◌≤◌, List, [], ◌++◌, Option, append-nil, arith}
 use Rattle.std.specs.Io.KnownBytes.{Appends}
 use Rattle.std.specs.Result.{MatchResult}
 use Rattle.std.proofs.KnownBytes.{Appends-trans}
@@ -9,16 +9,16 @@ use Rattle.sib_io.proofs.KnownLemmas.{part_after}
 use Rattle.ssap_encode.specs.Gathering.{Gathers, Fails}
 
 -- the room was filled, and all that is held was given
-pub given_full : (a b : Option (List ℕ)) (i j : ℕ) (before full front : List ℕ) → full ≡ before ++ front → Appends a b full → i ≤ j → Gathers a b i j before [] front
-given_full a b i j before full front is given later = record { part = full; given = given; held = sym is ∙ sym (append-nil full); later = later }
+pub given_full : (a b : Option (List ℕ)) (i j : ℕ) (before full front : List ℕ) → full ≡ before ++ front → Appends a b full → j ≡ i → Gathers a b i j before [] front
+given_full a b i j before full front is given kept = record { part = full; given = given; held = sym is ∙ sym (append-nil full); kept = kept }
 
 -- the room was filled, and what is held was not all given
 pub fails_full : (a b : Option (List ℕ)) (i j : ℕ) (before full front : List ℕ) → full ≡ before ++ front → AppendsPart a b full → Rose i j → i ≤ j → Fails a b i j before front
 fails_full a b i j before full front is given rose later = record { given = subst (AppendsPart a b) is given; rose = rose; later = later }
 
 -- nothing is held, and bytes were given as they are
-pub given_straight : (a b : Option (List ℕ)) (i j : ℕ) (bytes : List ℕ) → Appends a b bytes → i ≤ j → Gathers a b i j [] [] bytes
-given_straight a b i j bytes given later = record { part = bytes; given = given; held = sym (append-nil bytes); later = later }
+pub given_straight : (a b : Option (List ℕ)) (i j : ℕ) (bytes : List ℕ) → Appends a b bytes → j ≡ i → Gathers a b i j [] [] bytes
+given_straight a b i j bytes given kept = record { part = bytes; given = given; held = sym (append-nil bytes); kept = kept }
 
 -- nothing is held, and bytes were not all given
 pub fails_straight : (a b : Option (List ℕ)) (i j : ℕ) (bytes : List ℕ) → AppendsPart a b bytes → Rose i j → i ≤ j → Fails a b i j [] bytes
@@ -26,8 +26,8 @@ fails_straight a b i j bytes given rose later = record { given = given; rose = r
 
 -- what holds of a write by its two outcomes
 pub sends_by : {T E : Type 0} (P : T → Type 0) (Q : E → Type 0) (a b : Option (List ℕ)) (i j : ℕ) (bytes : List ℕ) (r : Result T E) → Writes a b r bytes → HasCause i j r
-    → ((x : T) → Appends a b bytes → i ≤ j → P x) → ((y : E) → AppendsPart a b bytes → Rose i j → i ≤ j → Q y) → MatchResult r P Q
-sends_by P Q a b i j bytes (Ok x) written cause ok err = ok x written cause.later
+    → ((x : T) → Appends a b bytes → j ≡ i → P x) → ((y : E) → AppendsPart a b bytes → Rose i j → i ≤ j → Q y) → MatchResult r P Q
+sends_by P Q a b i j bytes (Ok x) written cause ok err = ok x written cause.kept
 sends_by P Q a b i j bytes (Err y) written cause ok err = err y written cause.failed cause.later
 
 -- what was given and what is held make up the bytes, where nothing was held before
@@ -41,3 +41,8 @@ writes_all a b c i j before held bytes (Ok x) none gathered written =
     subst (Appends a c) (whole before gathered.part held bytes none gathered.held) (Appends-trans a b c gathered.part held gathered.given written)
 writes_all a b c i j before held bytes (Err y) none gathered written =
     subst (AppendsPart a c) (whole before gathered.part held bytes none gathered.held) (part_after a b c gathered.part held gathered.given written)
+
+-- a call behind gathering has the cause of both
+pub causes_all : {T E : Type 0} (a b : Option (List ℕ)) (i j k : ℕ) (before held bytes : List ℕ) (r : Result T E) → Gathers a b i j before held bytes → HasCause j k r → HasCause i k r
+causes_all a b i j k before held bytes (Ok x) gathered cause = record { later = omega (arith, gathered.kept, cause.later); failed = tt; kept = cause.kept ∙ gathered.kept }
+causes_all a b i j k before held bytes (Err y) gathered cause = record { later = omega (arith, gathered.kept, cause.later); failed = omega (arith, gathered.kept, cause.failed); kept = tt }

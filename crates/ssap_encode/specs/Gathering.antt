@@ -3,12 +3,12 @@ use Rattle.std.specs.Prelude.{◌≡◌, ℕ, ◌≤◌, List, ◌++◌, Option}
 use Rattle.std.specs.Io.KnownBytes.{Appends}
 use Rattle.sib_io.specs.Causes.{Rose, AppendsPart}
 
--- the sink was given a part of what was held and of these bytes, and the rest is held
+-- the sink was given a part of what was held and of these bytes without a fault, and the rest is held
 pub record Gathers (old new : Option (List ℕ)) (faults now : ℕ) (before after bytes : List ℕ) : Type 0 where
   pub part : List ℕ
   pub given : Appends old new part
   pub held : before ++ bytes ≡ part ++ after
-  pub later : faults ≤ now
+  pub kept : now ≡ faults
 
 -- the sink was given a front of what was held and of these bytes, and then it failed
 pub record Fails (old new : Option (List ℕ)) (faults now : ℕ) (before bytes : List ℕ) : Type 0 where

@@ -21,7 +21,7 @@ returns g c =
     let rest = c.split_at.result.1.now in
     let whole : front ++ rest ≡ c.args.bytes.now = rw (c.split_at.ensures.front, c.split_at.ensures.back) (take-append-drop _ _) in
     let e = c.in_ok-give.ensures in
-    let first = given_full _ _ _ _ c.args.self.now.held _ front c.keep-2.ensures e.bytes e.cause.later in
+    let first = given_full _ _ _ _ c.args.self.now.held _ front c.keep-2.ensures e.bytes e.cause.kept in
     rw (← whole, e.empty) (sends_by _ _ _ _ _ _ rest c.write_all.result c.write_all.ensures.bytes c.write_all.ensures.cause
-    (λ _ given later. (e.same_reference, gathers_further _ _ _ _ _ _ _ _ _ front rest first (given_straight _ _ _ _ rest given later)))
+    (λ _ given kept. (e.same_reference, gathers_further _ _ _ _ _ _ _ _ _ front rest first (given_straight _ _ _ _ rest given kept)))
     (λ _ given rose later. (e.same_reference, fails_behind _ _ _ _ _ _ _ _ front rest first (fails_straight _ _ _ _ rest given rose later))))
