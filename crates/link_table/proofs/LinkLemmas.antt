@@ -79,7 +79,7 @@ changed-given change slots opened number positive given =
     rw (link_at-given slots opened number positive given) refl
 
 -- a number that was given, or none
-number_cases : (opened number : ℕ) → ((number ≡ 0) ⊎ (opened < number)) ⊎ ((0 < number) × (number ≤ opened))
+pub number_cases : (opened number : ℕ) → ((number ≡ 0) ⊎ (opened < number)) ⊎ ((0 < number) × (number ≤ opened))
 number_cases opened number = grind arith
 
 -- a change of a link that is gone, which leaves it so, changes nothing

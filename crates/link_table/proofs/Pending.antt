@@ -3,8 +3,8 @@ use Rattle.std.proofs.Common.{◌≡◌, ℕ, ◌+◌, ◌^◌, ◌<◌, ◌≤�
 use Rattle.std.proofs.lemmas.Grind.{common_steps}
 use Rattle.std.proofs.lemmas.Bool.{ltb-true, leb-true}
 use Rattle.std.proofs.lemmas.List.Sums.{sum_by-cons}
-use Rattle.link_table.specs.Links.{bytes_of}
-use Rattle.link_table.specs.Table.{all_filled, IsEntry}
+use Rattle.link_table.specs.Links.{bytes_of, all_filled}
+use Rattle.link_table.specs.Table.{IsEntry}
 use Rattle.link_table.specs.declared.entry.Entry.{Entry}
 
 both : (b c : Bool) → (b && c) ≡ true → (b ≡ true) × (c ≡ true)

@@ -1,16 +1,16 @@
 -- The table after one link changed or opened.
-use Rattle.std.proofs.Common.{◌≡◌, ℕ, suc, ◌+◌, ◌-◌, ◌<◌, Bool, true, false, List, [], ◌∷◌, ◌++◌, length, get_or, set, drop, Option, Some, None, cond, refl, sym, ap, subst, slice_index_or, add-one, ◌∙◌, inl, inr, arith, if◌then◌else◌}
+use Rattle.std.proofs.Common.{◌≡◌, ℕ, suc, ◌+◌, ◌-◌, ◌^◌, ◌<◌, Bool, true, false, List, [], ◌∷◌, ◌++◌, length, get_or, set, drop, Option, Some, None, cond, refl, sym, ap, subst, slice_index_or, add-one, ◌∙◌, inl, inr, arith, if◌then◌else◌}
 use Rattle.std.proofs.lemmas.Bool.{cases_eq, cases_Bool}
 use Rattle.std.proofs.lemmas.Grind.{common_steps}
 use Rattle.std.proofs.lemmas.List.Sums.{sum_by-set, sum_by_push}
 use Rattle.slab.specs.Slab.{Slab, get, slab_len, Updates, HasRoomFor}
-use Rattle.link_table.specs.Links.{Link, is_counted, counted, changed, link_at, is_open, closed_link, with_message, fits, new_link, sent, ended, lost, taken}
+use Rattle.link_table.specs.Links.{Link, is_counted, counted, changed, link_at, is_open, closed_link, with_message, fits, new_link, sent, ended, lost, taken, IsLink, AreLinks}
 use Rattle.link_table.specs.Table.{link_of, gone_link, slot_of, link_or_gone, link_in, links_to, IsEntry, IsListed, IsTable, slot_left, slots_of, Removes, PutsBack}
 use Rattle.link_table.specs.declared.entry.Entry.{Entry}
 use Rattle.link_table.specs.declared.state.LinkState.{LinkState}
 use Rattle.link_table.specs.declared.state.LinkState.TheVariants.{Ended, Overrun}
 use Rattle.link_table.proofs.SlotLemmas.{slot_of-found, slot_of-there, Switches, Switches-distinct, Switches-others, Switches-here}
-use Rattle.link_table.proofs.LinkLemmas.{length-links_to, get_or-links_to, links_to-changed, links_to-same, changed-given, link_at-given}
+use Rattle.link_table.proofs.LinkLemmas.{length-links_to, get_or-links_to, links_to-changed, links_to-same, changed-given, number_cases, link_at-given, link_at-never}
 
 -- a link, or the gone link where it does not count
 abbrev pub settled : Link → Link
@@ -83,6 +83,28 @@ link_at-found slots opened number key entry table found =
     let is = slot_of-found slots number key entry found in
     let listed = table.listed key entry is.0 in
     link_at-given slots.slots opened number (omega (arith, listed, is.1)) (omega (arith, listed, is.1)) ∙ ap (λ (slot : Option (ℕ × Entry)). Some (link_or_gone slot)) found
+
+-- a number that was given is that of the link in its slot, or of one that is gone
+link_at-in : (slots : Slab Entry) (opened number : ℕ) (link : Link) → link_at (links_to slots.slots opened) number ≡ Some link → link_in slots.slots number ≡ link
+link_at-in slots opened number link there =
+    elim (number_cases opened number) [
+      | inl never ↦ absurd (cc (link_at-never slots.slots opened number never, there))
+      | inr given ↦ cc (link_at-given slots.slots opened number given.0 given.1, there)
+    ]
+
+-- callers may rely on each link of a table
+pub IsTable-links : (slots : Slab Entry) (opened : ℕ) → IsTable slots opened → AreLinks (links_to slots.slots opened)
+IsTable-links slots opened table = record {
+  few = omega (arith, table.in_limit, table.all_counted);
+  numbered = omega (arith, table.numbered, length-links_to slots.slots opened);
+  each = λ number link there. subst IsLink (link_at-in slots opened number link there) (by_slot number (slot_of slots.slots number) refl);
+}
+  where
+    by_slot : (number : ℕ) (slot : Option (ℕ × Entry)) → slot_of slots.slots number ≡ slot → IsLink (link_or_gone slot)
+    by_slot number None found = record { suited = refl; in_limit = refl; filled = refl }
+    by_slot number (Some (key, entry)) found =
+        let sound = (table.listed key entry (slot_of-found slots number key entry found).0).sound in
+        record { suited = sound.suited; in_limit = sound.in_limit; filled = sound.filled }
 
 -- an entry that was taken out was sound, and was the link of its number
 pub Removes-entry : (old mid : Slab Entry) (opened number : ℕ) (entry : Entry) → IsTable old opened → Removes old number entry mid → IsEntry entry
@@ -192,6 +214,7 @@ module _ (old new : Slab Entry) (opened number key : ℕ) (before after : Entry)
       | inl counts ↦ let one : slots_of after ≡ 1 = simp counts in omega (arith, replaces.len, replaces.table.in_limit)
       | inr not ↦ let nought : slots_of after ≡ 0 = simp not in omega (arith, replaces.len, replaces.table.in_limit)
     ];
+    numbered = replaces.table.numbered;
   }
 
 -- what the table says reads the slots alone
@@ -203,6 +226,7 @@ IsTable-slots old new opened same table =
       distinct = λ key other entry second there also. table.distinct key other entry second (sym (at key) ∙ there) (sym (at other) ∙ also);
       all_counted = rw same table.all_counted;
       in_limit = rw same table.in_limit;
+      numbered = table.numbered;
     }
 
 -- a link opened: its entry was put into an empty slot, under the next number
@@ -212,6 +236,7 @@ pub record Adds (old new : Slab Entry) (opened key : ℕ) (entry : Entry) : Type
   pub updates : Updates old new key (Some entry)
   pub len : slab_len new ≡ slab_len old + 1
   pub below : slab_len old < 256
+  pub last : opened + 1 < 2 ^ 32
   pub number : entry.number ≡ opened + 1
   pub link : link_of entry ≡ new_link
   pub sound : IsEntry entry
@@ -259,4 +284,5 @@ module _ (old new : Slab Entry) (opened key : ℕ) (entry : Entry) (adds : Adds 
     distinct = Switches-distinct old new key (suc opened) (Some entry) adds_switches adds.table.distinct;
     all_counted = adds_counted;
     in_limit = omega (arith, adds.len, adds.below);
+    numbered = adds.last;
   }

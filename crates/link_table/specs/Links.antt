@@ -1,5 +1,6 @@
 -- The links of a space, in the order in which they were opened: the state of each, and the messages that wait to be taken.
-use Rattle.std.specs.Prelude.{◌≡◌, ℕ, ◌+◌, ◌-◌, ◌^◌, Bool, true, false, ◌||◌, nat_le, if◌then◌else◌, List, [], ◌∷◌, ◌++◌, length, drop, slice_get, slice_set, count_by, sum_by, Option, Some, None, codes, refl}
+use Rattle.std.specs.Prelude.{◌≡◌, ℕ, ◌+◌, ◌-◌, ◌^◌, ◌<◌, ◌≤◌, Bool, true, false, not, ◌||◌, nat_le, nat_lt, if◌then◌else◌, List, [], ◌∷◌, ◌++◌, length, drop, slice_get, slice_set, count_by, sum_by, Option, Some, None, codes, refl}
+use Rattle.std.specs.List.{list_all}
 use Rattle.link_table.specs.declared.state.LinkState.{LinkState}
 use Rattle.link_table.specs.declared.state.LinkState.TheVariants.{Never, Open, Ended, Overrun, Gone}
 
@@ -16,7 +17,7 @@ is_open Ended = false
 is_open Overrun = false
 is_open Gone = false
 
--- a link that just opened
+-- a link that has just opened
 abbrev pub new_link : Link
 new_link = record { state = Open; pending = [] }
 
@@ -116,7 +117,31 @@ abbrev pub oldest : List (List ℕ) → Option (List ℕ)
 oldest [] = None
 oldest (message ∷ pending) = Some message
 
--- a link that ends while a message waits is gone when that was taken
+-- no message that waits is empty
+abbrev pub all_filled : List (List ℕ) → Bool
+all_filled pending = list_all (λ message. nat_lt 0 (length message)) pending
+
+-- a state is right for the messages that wait: on a link that ended or was overrun one waits, and on one that is gone none
+abbrev pub suits : LinkState → List (List ℕ) → Bool
+suits Never pending = false
+suits Open pending = true
+suits Ended pending = is_waiting pending
+suits Overrun pending = is_waiting pending
+suits Gone pending = not (is_waiting pending)
+
+-- a link of a table: its state is right for what waits, which is 8,388,608 bytes at most in messages that are not empty
+pub record IsLink (link : Link) : Type 0 where
+  pub suited : suits link.state link.pending ≡ true
+  pub in_limit : fits link.pending ≡ true
+  pub filled : all_filled link.pending ≡ true
+
+-- the links of a table: 256 count at most, each number is less than 2^32, and each is a link of a table
+pub record AreLinks (links : List Link) : Type 0 where
+  pub few : counted links ≤ 256
+  pub numbered : length links < 2 ^ 32
+  pub each : (number : ℕ) (link : Link) → link_at links number ≡ Some link → IsLink link
+
+-- a link that ends while a message waits is gone once that was taken
 example_drained : changed taken (changed ended (changed (sent (codes "a")) (new_link ∷ []) 1) 1) 1 ≡ record { state = Gone; pending = [] } ∷ []
 example_drained = refl
 

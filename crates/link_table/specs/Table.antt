@@ -1,9 +1,8 @@
 -- How the slots of the table stand for links.
-use Rattle.std.specs.Prelude.{◌≡◌, ℕ, zero, suc, ◌+◌, ◌<◌, ◌≤◌, ◌==◌, Bool, true, List, [], ◌∷◌, ◌++◌, length, Option, Some, None, if◌then◌else◌, refl}
-use Rattle.std.specs.List.{find, list_all}
-use Rattle.std.specs.Prelude.{nat_lt}
+use Rattle.std.specs.Prelude.{◌≡◌, ℕ, zero, suc, ◌+◌, ◌^◌, ◌<◌, ◌≤◌, ◌==◌, Bool, true, List, [], ◌∷◌, ◌++◌, Option, Some, None, if◌then◌else◌, refl}
+use Rattle.std.specs.List.{find}
 use Rattle.slab.specs.Slab.{Slab, get, slab_len, entries_from, Updates, HasRoomFor}
-use Rattle.link_table.specs.Links.{Link, bytes_of, fits, new_link, is_counted, counted}
+use Rattle.link_table.specs.Links.{Link, bytes_of, fits, all_filled, suits, new_link, is_counted, counted}
 use Rattle.link_table.specs.declared.entry.Entry.{Entry}
 use Rattle.link_table.specs.declared.state.LinkState.TheVariants.{Open, Gone}
 
@@ -37,13 +36,10 @@ abbrev pub links_to : List (Option Entry) → ℕ → List Link
 links_to slots zero = []
 links_to slots (suc opened) = links_to slots opened ++ link_in slots (suc opened) ∷ []
 
--- a message that waits has bytes
-abbrev pub all_filled : List (List ℕ) → Bool
-all_filled pending = list_all (λ message. nat_lt 0 (length message)) pending
-
--- an entry counts its bytes, of which there are not too many, and none of its messages is empty
+-- an entry counts its bytes, of which there are not too many, none of its messages is empty, and its state suits them
 pub record IsEntry (entry : Entry) : Type 0 where
   pub counted_bytes : entry.bytes ≡ bytes_of entry.pending
+  pub suited : suits entry.state entry.pending ≡ true
   pub in_limit : fits entry.pending ≡ true
   pub filled : all_filled entry.pending ≡ true
 
@@ -58,12 +54,13 @@ pub record IsListed (opened : ℕ) (entry : Entry) : Type 0 where
 abbrev pub IsDistinct : Slab Entry → Type 0
 IsDistinct slots = (key other : ℕ) (entry second : Entry) → get slots key ≡ Some entry → get slots other ≡ Some second → entry.number ≡ second.number → key ≡ other
 
--- so many links were opened, and those that count, which are 256 at most, have a slot each
+-- so many links were opened, less than 2^32, and those that count, which are 256 at most, have a slot each
 pub record IsTable (slots : Slab Entry) (opened : ℕ) : Type 0 where
   pub listed : (key : ℕ) (entry : Entry) → get slots key ≡ Some entry → IsListed opened entry
   pub distinct : IsDistinct slots
   pub all_counted : slab_len slots ≡ counted (links_to slots.slots opened)
   pub in_limit : slab_len slots ≤ 256
+  pub numbered : opened < 2 ^ 32
 
 -- the slot of an entry, which is empty where the link does not count
 abbrev pub slot_left : Entry → Option Entry

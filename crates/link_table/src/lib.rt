@@ -5,8 +5,6 @@ mod entry;
 mod links;
 mod message;
 mod state;
-#[cfg(test)]
-mod tests;
 
 pub use links::{LINK_LIMIT, Links, PENDING_LIMIT};
 pub use message::Message;

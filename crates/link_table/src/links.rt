@@ -1,7 +1,7 @@
-ghost use Rattle.std.specs.Prelude.{◌≡◌, [], None, OnErr, IfOk, length};
+ghost use Rattle.std.specs.Prelude.{◌≡◌, ◌≤◌, [], None, OnErr, IfOk, length};
 ghost use Rattle.std.specs.Option.{option_map};
 ghost use Rattle.slab.specs.Slab.{get, HasRoomFor};
-ghost use Rattle.link_table.specs.Links.{changed, sent, ended, lost, taken, state_of, pending_of, counted, oldest, Opens};
+ghost use Rattle.link_table.specs.Links.{changed, sent, ended, lost, taken, state_of, pending_of, counted, oldest, Opens, AreLinks};
 ghost use Rattle.link_table.specs.Table.{slot_of, TakesOut, PutsBack};
 
 use crate::entry::Entry;
@@ -11,13 +11,13 @@ use slab::Slab;
 use std::alloc::Global;
 use std::marker::Model;
 
-/// The most links that may count, which are those that are open or on which a message waits.
+/// The most links that may count. A link counts while it is open or a message waits on it.
 pub const LINK_LIMIT: usize = 256;
 
 /// The most bytes that may wait on a link.
 pub const PENDING_LIMIT: u64 = 8_388_608;
 
-/// The links of a space. Links are numbered from 1 in the order in which they open, and no number is used again.
+/// The links of a space, numbered from 1 in the order in which they open. No number is used again.
 #[derive(Drop)]
 pub struct Links {
     // The links that count. A link that is gone has no slot, so it takes no memory.
@@ -51,7 +51,9 @@ impl Links {
         }
     }
 
-    /// Opens the next link and gives its number, or `None` where no link may open.
+    /// Opens the next link and gives its number, or `None` where [`LINK_LIMIT`] links count or the last number was given.
+    ///
+    /// Out of memory is answered with no link opened.
     pub fn open(&mut self) -> Result<Option<u32>, NoMemory>
         ensures ok { IfOk result (λ number. Opens self.old number self.new) }
         ensures err { OnErr result (self.new ≡ self.old) }
@@ -66,9 +68,11 @@ impl Links {
         Ok(Some(number))
     }
 
-    /// How many links count, which is at most `LINK_LIMIT`.
+    /// How many links count, which is at most [`LINK_LIMIT`], and what else holds of all links.
     pub fn counted(&self) -> u32
-        ensures { result ≡ counted self.now }
+        ensures value { result ≡ counted self.now }
+        ensures limit { result ≤ 256 }
+        ensures links { AreLinks self.now }
     {
         self.slots.len() as u32
     }
@@ -94,8 +98,8 @@ impl Links {
         }
     }
 
-    /// Puts a message behind those that wait on a link, if the link is open. Where too much would wait the message is
-    /// dropped, and the link is overrun. It takes no memory.
+    /// Puts a message behind those that wait on a link, if the link is open. Where more than [`PENDING_LIMIT`] bytes would
+    /// wait, it drops the message and the link is overrun. It takes no memory.
     pub fn send(&mut self, number: u32, message: Message)
         ensures { self.new ≡ changed (sent message) self.old number }
     {

@@ -3,3 +3,5 @@
 
 #[cfg(test)]
 mod algebra;
+#[cfg(test)]
+mod links;

@@ -33,6 +33,7 @@ adds c =
       updates = c.insert_reserved.ensures.updates;
       len = c.insert_reserved.ensures.len;
       below = omega (arith, same_len, c.len.ensures, c.if-len-ge-LINK_LIMIT.false);
+      last = omega (arith, c.self.invariant.numbered, c.if-self.false);
       number = c.new.ensures.number;
       link = c.new.ensures.link;
       sound = c.new.ensures.sound;
