@@ -1,5 +1,5 @@
 -- Sources and sinks in memory, whose calls fail where a list says so.
-use Rattle.std.specs.Prelude.{◌≡◌, ℕ, ◌+◌, ◌≤◌, ◌==◌, min, Bool, true, false, List, ◌++◌, length, drop, Result, Ok, Err}
+use Rattle.std.specs.Prelude.{◌≡◌, ℕ, ◌+◌, ◌-◌, ◌≤◌, ◌<◌, ◌==◌, min, Bool, true, false, List, [], ◌∷◌, ◌++◌, length, take, drop, Result, Ok, Err, refl}
 use Rattle.std.specs.List.{list_any}
 use Rattle.m3_terms.specs.Counts.{one_more}
 
@@ -43,14 +43,28 @@ pub record Filled : Type 0 where
   pub room : ℕ
   pub plan : Plan
 
--- a write to a sink in memory is granted only where its plan lets it pass and the bytes fit, and else takes a front of them
+-- the longest prefix of some bytes that a sink in memory still has room for
+abbrev pub fitting : Filled → List ℕ → List ℕ
+fitting sink bytes = take (sink.room - length sink.bytes) bytes
+
+-- a write to a sink in memory is granted exactly where its plan lets it pass and the bytes fit; where the plan fails it, it takes nothing,
+-- and where the bytes do not fit, it takes those that do
 abbrev pub WritesFilled : Bool → Filled → List ℕ → {T E : Type 0} → Result T E → Filled → Type 0
 WritesFilled fails old bytes (Ok done) new = (fails ≡ false) × (length old.bytes + length bytes ≤ old.room)
     × (new ≡ record old { bytes = old.bytes ++ bytes; plan = made old.plan })
-WritesFilled fails old bytes (Err fault) new = (part : List ℕ) × (rest : List ℕ) × (part ++ rest ≡ bytes)
-    × (new ≡ record old { bytes = old.bytes ++ part; plan = failed old.plan })
+WritesFilled true old bytes (Err fault) new = new ≡ record old { plan = failed old.plan }
+WritesFilled false old bytes (Err fault) new = (old.room < length old.bytes + length bytes)
+    × (new ≡ record old { bytes = old.bytes ++ fitting old bytes; plan = failed old.plan })
 
 -- a flush of a sink in memory fails exactly where its plan says
 abbrev pub FlushesFilled : Bool → Filled → {T E : Type 0} → Result T E → Filled → Type 0
 FlushesFilled fails old (Ok done) new = (fails ≡ false) × (new ≡ record old { plan = made old.plan })
 FlushesFilled fails old (Err fault) new = (fails ≡ true) × (new ≡ record old { plan = failed old.plan })
+
+-- a sink with room for five bytes takes two of three where it holds three
+two_fit : fitting (record { bytes = 1 ∷ 2 ∷ 3 ∷ []; room = 5; plan = record { failing = []; calls = 0; faults = 0 } }) (4 ∷ 5 ∷ 6 ∷ []) ≡ 4 ∷ 5 ∷ []
+two_fit = refl
+
+-- the second call is to fail, and one was made
+second_fails : fails_next (record { failing = 2 ∷ []; calls = 1; faults = 0 }) ≡ true
+second_fails = refl

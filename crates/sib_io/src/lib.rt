@@ -2,18 +2,20 @@
 #![tactic(auto)]
 
 mod calls;
+mod gathered;
 mod give;
 mod memory;
 mod outside;
+mod piece;
 mod real;
 mod sink;
 mod sure;
-#[cfg(test)]
-mod tests;
 
 pub use calls::Calls;
+pub use gathered::GatheredSink;
 pub use memory::MemSource;
 pub use outside::{Failed, Sink, Source};
+pub use piece::PIECE_LIMIT;
 pub use real::{StdSink, StdSource};
 pub use sink::MemSink;
 pub use sure::{SureSink, SureSource};

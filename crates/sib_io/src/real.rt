@@ -58,15 +58,9 @@ impl<W: Write + Drop> Sink for StdSink<W> {
     ghost faults = { λ s. s.faults };
 
     fn write_all(&mut self, bytes: &[u8]) -> Result<(), Failed> {
-        let mut at = 0;
-        while at < bytes.len() {
-            match write_some(&mut self.inner, bytes.split_at(at).1) {
-                Some(count) => at += count,
-                None => {
-                    self.faults = self.faults.saturating_add(1);
-                    return Err(Failed);
-                }
-            }
+        if write_out(&mut self.inner, bytes) < bytes.len() {
+            self.faults = self.faults.saturating_add(1);
+            return Err(Failed);
         }
         Ok(())
     }
@@ -80,7 +74,7 @@ impl<W: Write + Drop> Sink for StdSink<W> {
     }
 }
 
-// Reads once, and again where the read was interrupted.
+/// Reads once, and again where the read was interrupted.
 fn read_some<R: Read>(reader: &mut R, into: &mut [u8]) -> Option<usize>
     ensures within { IfSome result (λ count. count ≤ length into.new) }
     ensures some { IfSome result (λ count. Consumes (R.remaining reader.old) (R.remaining reader.new) (take count into.new)) }
@@ -100,7 +94,22 @@ fn read_some<R: Read>(reader: &mut R, into: &mut [u8]) -> Option<usize>
     None
 }
 
-// Writes some of the bytes, and tries again where the write was interrupted.
+/// Writes bytes until the writer has taken all or fails, and answers how many it took.
+pub(crate) fn write_out<W: Write>(writer: &mut W, bytes: &[u8]) -> usize
+    ensures within { result ≤ length bytes.now }
+    ensures taken { Appends (W.contents writer.old) (W.contents writer.new) (take result bytes.now) }
+{
+    let mut at = 0;
+    while at < bytes.len() {
+        match write_some(writer, bytes.split_at(at).1) {
+            Some(count) => at += count,
+            None => return at,
+        }
+    }
+    at
+}
+
+/// Writes some of the bytes, and tries again where the write was interrupted.
 fn write_some<W: Write>(writer: &mut W, bytes: &[u8]) -> Option<usize>
     ensures within { IfSome result (λ count. count ≤ length bytes.now) }
     ensures progress { IfSome result (λ count. 0 < count) }
@@ -120,6 +129,7 @@ fn write_some<W: Write>(writer: &mut W, bytes: &[u8]) -> Option<usize>
     None
 }
 
+/// The count of a write, or `None` where it took no byte.
 fn taken(count: usize) -> Option<usize>
     ensures some { IfSome result (λ c. (c ≡ count) × (0 < count)) }
     ensures none { IfNone result (count ≡ 0) }

@@ -1,34 +1,33 @@
-ghost use Rattle.std.specs.Prelude.{◌≡◌, ◌+◌, ◌≤◌, ◌++◌, [], length, Some, IfOk, OnOk, OnErr};
+ghost use Rattle.std.specs.Prelude.{◌≡◌, [], Some, IfOk, OnOk};
 ghost use Rattle.std.specs.Io.KnownBytes.{Keeps};
 ghost use Rattle.sib_io.specs.Causes.{HasCause, Writes};
 ghost use Rattle.sib_io.specs.Memory.{fails_next, WritesFilled, FlushesFilled};
 
 use crate::calls::Plan;
+use crate::piece::append;
 use crate::{Calls, Failed, Sink};
-use m3_terms::{Bytes, NoMemory};
+use m3_terms::NoMemory;
 use std::alloc::Global;
 use std::marker::Model;
-use std::mem;
 
-/// A sink in memory, of so much room, whose calls fail where a list says so. A write that no longer fits fails too, and
-/// takes the front that fits.
+/// A sink in memory with room for so many bytes, whose calls fail where a list says so. A write that its list fails takes
+/// nothing. One that does not fit fails too, and takes the longest prefix that fits.
 #[derive(Drop)]
 pub struct MemSink {
-    alloc: Global,
-    bytes: Bytes,
+    bytes: Vec<u8>,
     room: usize,
     plan: Plan,
 }
 
 impl Model for MemSink {
-    ghost use Rattle.std.specs.Prelude.{length, ◌≤◌};
+    ghost use Rattle.std.specs.Prelude.{◌≤◌, vec_len, vec_capacity};
     ghost use Rattle.sib_io.specs.Memory.{Filled};
 
     ghost Value = { Filled };
 
-    ghost view = { λ s. record { bytes = s.bytes; room = s.room; plan = s.plan } };
+    ghost view = { λ s. record { bytes = s.bytes.items; room = s.room; plan = s.plan } };
 
-    ghost invariant = { λ s. length s.bytes ≤ s.room };
+    ghost invariant = { λ s. (vec_len s.bytes ≤ s.room) × (s.room ≤ vec_capacity s.bytes) };
 }
 
 impl MemSink {
@@ -37,31 +36,17 @@ impl MemSink {
         ensures { IfOk result (λ sink. sink ≡ record { bytes = []; room = room; plan = record { failing = failing; calls = 0; faults = 0 } }) }
     {
         Ok(MemSink {
-            alloc,
-            bytes: Bytes::from_vec(Vec::with_capacity(alloc, room)?),
+            bytes: Vec::with_capacity(alloc, room)?,
             room,
             plan: Plan::new(failing),
         })
     }
 
     /// The bytes that it was given.
-    pub fn bytes(&self) -> &Bytes
+    pub fn bytes(&self) -> &[u8]
         ensures { result.now ≡ self.now.bytes }
     {
-        &self.bytes
-    }
-
-    // Appends bytes that fit.
-    fn append(&mut self, bytes: &[u8]) -> Result<(), NoMemory>
-        requires { length self.old.bytes + length bytes.now ≤ self.old.room }
-        ensures ok { OnOk result (self.new ≡ record self.old { bytes = self.old.bytes ++ bytes.now }) }
-        ensures err { OnErr result (self.new ≡ self.old) }
-    {
-        let mut items = mem::replace(&mut self.bytes, Bytes::new(self.alloc)).into_vec();
-        let appended = items.extend_from_slice(bytes);
-        self.bytes = Bytes::from_vec(items);
-        appended?;
-        Ok(())
+        self.bytes.as_slice()
     }
 }
 
@@ -80,11 +65,9 @@ impl Sink for MemSink {
         if self.plan.is_next_failing() {
             return Err(self.plan.fail());
         }
-        let free = self.room.saturating_sub(self.bytes.len());
-        let (front, rest) = bytes.split_at(bytes.len().min(free));
-        if self.append(front).is_err() {
-            return Err(self.plan.fail());
-        }
+        let free = self.room - self.bytes.len();
+        let (fitting, rest) = bytes.split_at(bytes.len().min(free));
+        append(&mut self.bytes, fitting);
         if !rest.is_empty() {
             return Err(self.plan.fail());
         }
