@@ -1,5 +1,5 @@
 -- What a sink is given of bytes that are gathered for it.
-use Rattle.std.proofs.Common.{◌≡◌, ◌∙◌, sym, ap, subst, ℕ, ◌≤◌, List, [], ◌++◌, Option, append-nil, arith}
+use Rattle.std.proofs.Common.{◌≡◌, ◌∙◌, sym, ap, subst, ℕ, ◌≤◌, List, [], ◌++◌, Option, append-nil}
 use Rattle.std.specs.Io.KnownBytes.{Appends}
 use Rattle.std.specs.Result.{MatchResult}
 use Rattle.std.proofs.KnownBytes.{Appends-trans}
@@ -42,7 +42,7 @@ writes_all a b c i j before held bytes (Ok x) none gathered written =
 writes_all a b c i j before held bytes (Err y) none gathered written =
     subst (AppendsPart a c) (whole before gathered.part held bytes none gathered.held) (part_after a b c gathered.part held gathered.given written)
 
--- a call behind gathering has the cause of both
-pub causes_all : {T E : Type 0} (a b : Option (List ℕ)) (i j k : ℕ) (before held bytes : List ℕ) (r : Result T E) → Gathers a b i j before held bytes → HasCause j k r → HasCause i k r
-causes_all a b i j k before held bytes (Ok x) gathered cause = record { later = omega (arith, gathered.kept, cause.later); failed = tt; kept = cause.kept ∙ gathered.kept }
-causes_all a b i j k before held bytes (Err y) gathered cause = record { later = omega (arith, gathered.kept, cause.later); failed = omega (arith, gathered.kept, cause.failed); kept = tt }
+-- a write of what is held at the end has its cause in the count from before, since gathering counted no fault
+pub cause_of_all : {T E : Type 0} (a b : Option (List ℕ)) (i j k : ℕ) (before held bytes : List ℕ) (r : Result T E) → Gathers a b i j before held bytes
+    → HasCause j k r → HasCause i k r
+cause_of_all a b i j k before held bytes r gathered cause = subst (λ n. HasCause n k r) gathered.kept cause

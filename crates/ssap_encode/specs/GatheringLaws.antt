@@ -1,7 +1,7 @@
 -- What is gathered in two steps is gathered in one.
-use Rattle.std.proofs.Common.{◌≡◌, ◌∙◌, refl, sym, ap, subst, ℕ, List, [], ◌++◌, Option, append_assoc, append-nil, arith}
+use Rattle.std.proofs.Common.{◌≡◌, ◌∙◌, refl, sym, ap, subst, ℕ, ◌≤◌, List, [], ◌++◌, Option, append_assoc, append-nil}
 use Rattle.std.proofs.KnownBytes.{Appends-nil, Appends-trans}
-use Rattle.sib_io.specs.Causes.{AppendsPart}
+use Rattle.sib_io.specs.Causes.{Rose, AppendsPart}
 use Rattle.sib_io.proofs.KnownLemmas.{part_after, part_of_more}
 use Rattle.ssap_encode.specs.Gathering.{Gathers, Fails}
 
@@ -25,8 +25,8 @@ pub fails_behind : (a b c : Option (List ℕ)) (i j k : ℕ) (before between xs 
     → Gathers a b i j before between xs → Fails b c j k between ys → Fails a c i k before (xs ++ ys)
 fails_behind a b c i j k before between xs ys p q = record {
   given = subst (AppendsPart a c) (sym (held_then before p.part between xs ys p.held)) (part_after a b c p.part (between ++ ys) p.given q.given);
-  rose = omega (arith, p.kept, q.rose);
-  later = omega (arith, p.kept, q.later);
+  rose = subst (λ n. Rose n k) p.kept q.rose;
+  later = subst (λ n. n ≤ k) p.kept q.later;
 }
 
 pub fails_before : (a b : Option (List ℕ)) (i j : ℕ) (before xs ys : List ℕ) → Fails a b i j before xs → Fails a b i j before (xs ++ ys)

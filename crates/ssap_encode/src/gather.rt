@@ -77,8 +77,8 @@ impl<K: Sink> Out for Gather<'_, K> {
     ghost stops_before = { λ s t xs ys p. (p.0, fails_before _ _ _ _ _ xs ys p.1) };
 }
 
-/// Gives the canonical spelling of an envelope to a sink, in pieces of 4,096 bytes or more but the last. It takes no
-/// memory, and does not flush the sink. After `Failed` the sink was given a front of the spelling.
+/// Writes the canonical spelling of an envelope to a sink, in pieces of at least 4,096 bytes but for the last. It takes
+/// no memory, and does not flush the sink. After `Failed` the sink was given a prefix of the spelling.
 pub fn write<K: Sink>(envelope: &Envelope, sink: &mut K) -> Result<(), Failed>
     ensures written { Writes (K.given sink.old) (K.given sink.new) result (canonical envelope.now) }
     ensures cause { HasCause (K.faults sink.old) (K.faults sink.new) result }

@@ -18,6 +18,3 @@ pub use counting::length;
 pub use fault::EncodeFault;
 pub use gather::write;
 pub use vector::to_bytes;
-
-#[cfg(test)]
-mod tests;
