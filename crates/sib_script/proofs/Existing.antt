@@ -221,7 +221,7 @@ beginning_is_decided bytes = go (parted bytes)
       | inr dead ↦ inr (dead_begins bytes p.entries p.rest p.allowed p.spelled dead)
     ]
 
--- going down from a length that no longer front passes, the first front that begins a script is the longest
+-- going down from a length that no longer prefix passes, the first prefix that begins a script is the longest
 place_below : (bytes : List ℕ) (limit : ℕ) → limit ≤ length bytes
     → ((count : ℕ) → count ≤ length bytes → BeginsScript (take count bytes) → count ≤ limit) → (place : ℕ) × IsPlace bytes place
 place_below bytes zero within most = (0, record { within = within; begins = ([], [], record { allowed = tt; spelled = refl }); longest = most })

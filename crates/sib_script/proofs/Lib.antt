@@ -4,3 +4,4 @@ pub mod Steps
 pub mod Reading
 pub mod Existing
 pub mod Places
+pub mod Standing

@@ -1,19 +1,19 @@
--- The place of the first fault of bytes that are no script.
+-- The offset of the first fault of bytes that are no script.
 use Rattle.std.proofs.Common.{◌≡◌, ◌∙◌, ap, sym, subst, arith, ℕ, zero, suc, ◌-◌, ◌<◌, List, ◌∷◌, ◌++◌, length, take, append_assoc, length-append, inl, inr}
 use Rattle.std.proofs.lemmas.Bool.{cases_lt}
 use Rattle.std.proofs.lemmas.List.{take_all, take-append-le}
 use Rattle.std.proofs.Math.Seq.{take-append-add}
 use Rattle.sib_script.specs.Script.{IsScript, BeginsScript, IsPlace}
 
--- a front of what begins a script begins one
+-- a prefix of what begins a script begins one
 pub front_begins : (front more : List ℕ) → BeginsScript (front ++ more) → BeginsScript front
 front_begins front more (rest, entries, script) = (more ++ rest, entries, subst (λ l. IsScript l entries) (append_assoc front more rest) script)
 
--- bytes have one place
+-- bytes have one offset
 pub place_once : (bytes : List ℕ) (p q : ℕ) → IsPlace bytes p → IsPlace bytes q → p ≡ q
 place_once bytes p q a b = let one = b.longest p a.within a.begins in let other = a.longest q b.within b.begins in omega (arith, one, other)
 
--- the place of bytes that begin a script is behind all of them
+-- the offset of bytes that begin a script is their length
 pub place_whole : (bytes : List ℕ) → BeginsScript bytes → IsPlace bytes (length bytes)
 place_whole bytes begins = record {
   within = omega arith;
@@ -25,7 +25,7 @@ place_whole bytes begins = record {
 take_more : (front more : List ℕ) (count : ℕ) → length front < count → take count (front ++ more) ≡ front ++ take (count - length front) more
 take_more front more count past = ap (λ n. take n (front ++ more)) (omega (arith, past)) ∙ take-append-add front more (count - length front)
 
--- the place stays as more bytes follow those that begin no script
+-- the offset stays as more bytes follow those that begin no script
 pub place_stays : (bytes more : List ℕ) (place : ℕ) → IsPlace bytes place → ¬ (BeginsScript bytes) → IsPlace (bytes ++ more) place
 place_stays bytes more place at dead = record {
   within = omega (arith, at.within, length-append bytes more);
@@ -36,7 +36,7 @@ place_stays bytes more place at dead = record {
   ];
 }
 
--- where no script goes on with a byte, its place is that of the fault
+-- where no script goes on with a byte, the fault has the offset of that byte
 pub place_dead : (bytes : List ℕ) (byte : ℕ) (more : List ℕ) → BeginsScript bytes → ((rest : List ℕ) → ¬ (BeginsScript (bytes ++ byte ∷ rest))) → IsPlace (bytes ++ byte ∷ more) (length bytes)
 place_dead bytes byte more begins dead = record {
   within = omega (arith, length-append bytes (byte ∷ more));

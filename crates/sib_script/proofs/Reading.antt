@@ -9,23 +9,23 @@ use Rattle.sib_script.specs.Script.{entry_spelling, IsLink, IsEntry}
 use Rattle.sib_script.specs.Reading.{Reading, IsPart, IsNoPart, FaultStands, TakesPiece, FeedsWaiting, Feeds, Refuses, IsMemoryWanted}
 use Rattle.sib_script.specs.declared.reader.ScriptFault.{ScriptFault}
 use Rattle.sib_script.specs.declared.reader.ScriptFault.TheVariants.{BadScript, NoMemory}
-use Rattle.sib_script.specs.Steps.{delivery_front, unread_of, IsStep, IsLast, IsEnd, Halts, Leads, entry_of, Walks, GoesOn, IsRoomWanted}
+use Rattle.sib_script.specs.Steps.{delivery_prefix, unread_of, IsStep, IsLast, IsEnd, Halts, Leads, entry_of, Walks, GoesOn, IsRoomWanted}
 use Rattle.sib_script.specs.declared.entry.TheConstants.{PIECE_LIMIT}
 use Rattle.sib_script.specs.declared.entry.Entry.{Entry}
 use Rattle.sib_script.specs.declared.entry.Entry.TheVariants.{NewLink, Bytes, End}
 use Rattle.sib_script.specs.declared.step.Step.{Step}
 use Rattle.sib_script.specs.declared.step.Step.TheVariants.{Start, Plus, Sign, Link, Space, Count, Inside, Close, Minus, Ended}
 use Rattle.sib_script.proofs.ScriptLaws.{IsLeft, entry_then}
-use Rattle.sib_script.proofs.Steps.{entry_whole, front_on}
+use Rattle.sib_script.proofs.Steps.{entry_whole, prefix_on}
 
--- a front of an entry is a part of it
+-- a prefix of an entry is a part of it
 part_of : (e : Entry) (unread more : List ℕ) → IsEntry e → 0 < length more → unread ++ more ≡ entry_then e [] → IsPart unread
 part_of e unread more k n h = (e, more, k, n, h ∙ sym (entry_whole e))
 
--- a front of a delivery is a part of it, from the space behind its link on
-delivery_part : (link : ℕ) (t more d : List ℕ) → IsLink link → length d ≤ PIECE_LIMIT → 0 < length more → t ++ more ≡ decimal (length d) ++ 10 ∷ (d ++ 10 ∷ []) → IsPart (delivery_front link t)
+-- a prefix of a delivery that reaches the space behind its link is a part of it
+delivery_part : (link : ℕ) (t more d : List ℕ) → IsLink link → length d ≤ PIECE_LIMIT → 0 < length more → t ++ more ≡ decimal (length d) ++ 10 ∷ (d ++ 10 ∷ []) → IsPart (delivery_prefix link t)
 delivery_part link t more d k p n e =
-    part_of (Bytes link d) (delivery_front link t) more (k, p) n (ap (λ l. 62 ∷ l) (append_assoc (decimal link) (32 ∷ t) more ∙ ap (λ l. decimal link ++ 32 ∷ l) e))
+    part_of (Bytes link d) (delivery_prefix link t) more (k, p) n (ap (λ l. 62 ∷ l) (append_assoc (decimal link) (32 ∷ t) more ∙ ap (λ l. decimal link ++ 32 ∷ l) e))
 
 -- the least link has a number
 one_link : IsLink 1
@@ -73,7 +73,7 @@ pub ends_entry : (step : Step) (piece : List ℕ) → IsStep step piece → IsLa
 ends_entry Plus piece h l = record { may = tt; spelled = sym (entry_whole NewLink) }
 ends_entry (Close link) piece h l = record {
   may = h;
-  spelled = sym (front_on link (decimal (length piece) ++ 10 ∷ (piece ++ 10 ∷ [])) (decimal (length piece) ++ 10 ∷ piece) (10 ∷ []) (sym (append_assoc (decimal (length piece)) (10 ∷ piece) (10 ∷ [])))) ∙ sym (entry_whole (Bytes link piece));
+  spelled = sym (prefix_on link (decimal (length piece) ++ 10 ∷ (piece ++ 10 ∷ [])) (decimal (length piece) ++ 10 ∷ piece) (10 ∷ []) (sym (append_assoc (decimal (length piece)) (10 ∷ piece) (10 ∷ [])))) ∙ sym (entry_whole (Bytes link piece));
 }
 ends_entry (Ended link) piece h l = record { may = h.1; spelled = sym (entry_whole (End link)) }
 ends_entry Start piece h l = absurd l
@@ -231,7 +231,7 @@ pub refuses_as : (old : Reading) (bytes : List ℕ) (mid new : Reading) (fault :
 refuses_as old bytes mid new fault f n h =
     subst (λ (g : ScriptFault). Refuses old bytes new g) (sym f) (h.0, n ∙ h.1, h.2)
 
--- a front of a part is no dead end
+-- a prefix of a part is no dead end
 pub part_goes : (unread : List ℕ) (b : ℕ) (more : List ℕ) → IsPart (unread ++ b ∷ more) → IsNoPart (unread ++ b ∷ []) → ⊥
 part_goes unread b more p n =
     n p.0 (more ++ p.1) p.2 (append_assoc unread (b ∷ []) (more ++ p.1) ∙ (sym (append_assoc unread (b ∷ more) p.1) ∙ p.4))
@@ -246,7 +246,7 @@ inside_goes link left piece b h =
     let n : length (piece ++ b ∷ z) ≡ whole = omega (arith, some, length-append piece (b ∷ z), length-replicate {A = ℕ} (left - 1) 0) in
     let text : ((decimal whole ++ 10 ∷ piece) ++ b ∷ []) ++ (z ++ 10 ∷ []) ≡ decimal whole ++ 10 ∷ ((piece ++ b ∷ z) ++ 10 ∷ []) = simp append_assoc in
     let same : decimal whole ++ 10 ∷ ((piece ++ b ∷ z) ++ 10 ∷ []) ≡ decimal (length (piece ++ b ∷ z)) ++ 10 ∷ ((piece ++ b ∷ z) ++ 10 ∷ []) = ap (λ k. decimal k ++ 10 ∷ ((piece ++ b ∷ z) ++ 10 ∷ [])) (sym n) in
-    let front = front_on link ((decimal whole ++ 10 ∷ piece) ++ b ∷ []) (decimal whole ++ 10 ∷ piece) (b ∷ []) refl in
+    let front = prefix_on link ((decimal whole ++ 10 ∷ piece) ++ b ∷ []) (decimal whole ++ 10 ∷ piece) (b ∷ []) refl in
     subst IsPart front (delivery_part link ((decimal whole ++ 10 ∷ piece) ++ b ∷ []) (z ++ 10 ∷ []) (piece ++ b ∷ z) h.0 (omega (arith, n, small)) (omega (arith, length-append z (10 ∷ []))) (text ∙ same))
 
 -- what was walked over and is inside a delivery then goes on

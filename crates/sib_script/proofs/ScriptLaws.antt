@@ -16,7 +16,7 @@ use Rattle.sib_script.specs.declared.entry.Entry.TheVariants.{NewLink, Bytes, En
 pub no_digit : (c d : ℕ) → c < 48 → digit_value d < 10 → d ≡ c → ⊥
 no_digit c d n p e = let h = digit_from_value d p in omega (arith, h)
 
--- digits up to a byte that is none are told from the bytes
+-- the bytes determine the digits up to a byte that is none
 pub digits_end : (c : ℕ) (ds es u v : List ℕ) → c < 48 → AllDigits 10 ds → AllDigits 10 es → ds ++ c ∷ u ≡ es ++ c ∷ v → (ds ≡ es) × (u ≡ v)
 digits_end c [] [] u v n p q e = (refl, tails_same c c u v e)
 digits_end c [] (d ∷ es) u v n p q e = absurd (no_digit c d n q.0 (sym (heads_same c d u (es ++ c ∷ v) e)))
@@ -31,13 +31,13 @@ digits_end c (d ∷ ds) (f ∷ es) u v n p q e =
 pub decimal_digits : (n : ℕ) → n < 2 ^ 64 → AllDigits 10 (decimal n)
 decimal_digits n h = digits_decimal (numerals_by_value (AllDigits 10) tells_digits) n h
 
--- a number up to a byte that is no digit is told from the bytes
+-- the bytes determine a number up to a byte that is no digit
 pub number_end : (c m n : ℕ) (u v : List ℕ) → c < 48 → m < 2 ^ 64 → n < 2 ^ 64 → decimal m ++ c ∷ u ≡ decimal n ++ c ∷ v → (m ≡ n) × (u ≡ v)
 number_end c m n u v k p q e =
     let h = digits_end c (decimal m) (decimal n) u v k (decimal_digits m p) (decimal_digits n q) e in
     (decimal_injective m n p q h.0, h.1)
 
--- fronts of one length are told from the bytes
+-- prefixes of one length are equal where the bytes are
 pub fronts_same : {A : Type 0} (a b x y : List A) → length a ≡ length b → a ++ x ≡ b ++ y → (a ≡ b) × (x ≡ y)
 fronts_same [] [] x y n e = (refl, e)
 fronts_same [] (b ∷ bs) x y n e = absurd (omega arith)
@@ -64,7 +64,7 @@ entry_is NewLink x = refl
 entry_is (Bytes l d) x = ap (λ b. 62 ∷ b) (regroup (decimal l) (decimal (length d)) d x)
 entry_is (End l) x = ap (λ b. 45 ∷ b) (append_assoc (decimal l) (10 ∷ []) x)
 
--- deliveries are told from the bytes
+-- the bytes determine a delivery
 deliveries_unique : (l k : ℕ) (a b x y : List ℕ) → IsEntry (Bytes l a) → IsEntry (Bytes k b) → entry_then (Bytes l a) x ≡ entry_then (Bytes k b) y → (Bytes l a ≡ Bytes k b) × (x ≡ y)
 deliveries_unique l k a b x y p q e =
     let l_small = p.0.1 in
@@ -103,7 +103,7 @@ told (End l) NewLink x y p q h = absurd (heads_apart 45 43 (decimal l ++ 10 ∷ 
 told (End l) (Bytes k b) x y p q h = absurd (heads_apart 45 62 (decimal l ++ 10 ∷ x) (decimal k ++ 32 ∷ (decimal (length b) ++ 10 ∷ (b ++ 10 ∷ y))) (λ e. omega (arith, e)) h)
 told (End l) (End k) x y p q h = ends_unique l k x y p q h
 
--- an entry is told from the bytes, with what follows it
+-- the bytes determine an entry and what follows it
 pub entry_unique : (e f : Entry) (x y : List ℕ) → IsEntry e → IsEntry f → entry_spelling e ++ x ≡ entry_spelling f ++ y → (e ≡ f) × (x ≡ y)
 entry_unique e f x y p q h = told e f x y p q (sym (entry_is e x) ∙ h ∙ entry_is f y)
 
@@ -142,11 +142,11 @@ pub script_spelling-push : (es : List Entry) (e : Entry) → script_spelling (es
 script_spelling-push es e =
     script_spelling-append es (e ∷ []) ∙ ap (λ l. script_spelling es ++ l) (append-nil (entry_spelling e))
 
--- no whole entry is at the front
+-- the bytes begin with no whole entry
 abbrev pub IsPartial : List ℕ → Type 0
 IsPartial rest = (entry : Entry) (more : List ℕ) → IsEntry entry → rest ≢ entry_spelling entry ++ more
 
--- entries that some bytes begin with are a front of those that are read from them
+-- entries that some bytes begin with are a prefix of those that are read from them
 pub front_of : (es fs : List Entry) (r s : List ℕ) → AreEntries es → AreEntries fs → IsPartial s → script_spelling es ++ r ≡ script_spelling fs ++ s → (tail : List Entry) × (fs ≡ es ++ tail) × (r ≡ script_spelling tail ++ s)
 front_of [] fs r s p q n h = (fs, refl, h)
 front_of (e ∷ es) [] r s p q n h =
@@ -176,7 +176,7 @@ pub splits_unique : (b : List ℕ) (es fs : List Entry) (r s : List ℕ) → Spl
 splits_unique b es fs r s p q =
     walk_unique es fs r s p.allowed q.allowed p.partial q.partial (sym p.spelled ∙ q.spelled)
 
--- the entries of bytes are a front of the entries of longer bytes
+-- the entries of bytes are a prefix of the entries of longer bytes
 pub splits_front : (b more : List ℕ) (es fs : List Entry) (r s : List ℕ) → Splits b es r → Splits (b ++ more) fs s → (tail : List Entry) × (fs ≡ es ++ tail)
 splits_front b more es fs r s p q =
     let f = front_of es fs (r ++ more) s p.allowed q.allowed q.partial (sym (append_assoc (script_spelling es) r more) ∙ (ap (λ l. l ++ more) (sym p.spelled) ∙ q.spelled)) in

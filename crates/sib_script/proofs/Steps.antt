@@ -7,7 +7,7 @@ use Rattle.std.specs.Fmt.{decimal}
 use Rattle.std.specs.Prelude.{Option, None, ◌==◌, if◌then◌else◌}
 use Rattle.sib_script.specs.Script.{entry_spelling, IsLink}
 use Rattle.sib_script.specs.Reading.{IsNoPart}
-use Rattle.sib_script.specs.Steps.{delivery_front, Begins, Lengthens, unread_of, Walks, Sticks, Moves, Stops, Halts, Leads}
+use Rattle.sib_script.specs.Steps.{delivery_prefix, Begins, Lengthens, unread_of, Walks, Sticks, Moves, Stops, Halts, Leads}
 use Rattle.sib_script.specs.declared.entry.TheConstants.{PIECE_LIMIT}
 use Rattle.sib_script.specs.declared.entry.Entry.{Entry}
 use Rattle.sib_script.specs.declared.entry.Entry.TheVariants.{NewLink, Bytes, End}
@@ -82,7 +82,7 @@ stick_ended link byte n k piece h =
     k (number_on 10 link l byte (2 ^ 32 - 1) more [] (omega arith) (omega (arith, small)) (omega (arith, other)) (omega arith) n (sym (append_assoc (decimal link) (byte ∷ []) more) ∙ e)))
 
 -- behind a link's number and the space come the rest of a delivery on that link
-no_rest : (link : ℕ) (t : List ℕ) → IsLink link → ((d more : List ℕ) → length d ≤ PIECE_LIMIT → t ++ more ≡ count_rest d → ⊥) → IsNoPart (delivery_front link t)
+no_rest : (link : ℕ) (t : List ℕ) → IsLink link → ((d more : List ℕ) → length d ≤ PIECE_LIMIT → t ++ more ≡ count_rest d → ⊥) → IsNoPart (delivery_prefix link t)
 no_rest link t k f =
     let small = k.1 in
     no_delivery (decimal link ++ 32 ∷ t) (λ l d more j p e.
@@ -91,7 +91,7 @@ no_rest link t k f =
     f d more p (number_end 32 link l (t ++ more) (count_rest d) (omega arith) (omega (arith, small)) (omega (arith, other)) text).1)
 
 -- the same, with one byte more
-no_rest_on : (link byte : ℕ) (t : List ℕ) → IsLink link → ((d more : List ℕ) → length d ≤ PIECE_LIMIT → t ++ byte ∷ more ≡ count_rest d → ⊥) → IsNoPart (delivery_front link t ++ byte ∷ [])
+no_rest_on : (link byte : ℕ) (t : List ℕ) → IsLink link → ((d more : List ℕ) → length d ≤ PIECE_LIMIT → t ++ byte ∷ more ≡ count_rest d → ⊥) → IsNoPart (delivery_prefix link t ++ byte ∷ [])
 no_rest_on link byte t k f =
     subst (λ (l : List ℕ). IsNoPart (62 ∷ l)) (sym (append_assoc (decimal link) (32 ∷ t) (byte ∷ [])))
     (no_rest link (t ++ byte ∷ []) k (λ d more p e. f d more p (sym (append_assoc t (byte ∷ []) more) ∙ e)))
@@ -129,15 +129,15 @@ walk_minus byte d piece h =
     let high = d.high in
     ((h, (omega arith, omega arith)), ap (λ l. 45 ∷ l) (decimal_one byte 1 d))
 
--- behind the front of a delivery the same bytes follow
-pub front_on : (link : ℕ) (s t more : List ℕ) → s ≡ t ++ more → delivery_front link s ≡ delivery_front link t ++ more
-front_on link s t more e =
-    ap (λ l. delivery_front link l) e ∙ ap (λ l. 62 ∷ l) (sym (append_assoc (decimal link) (32 ∷ t) more))
+-- behind the first bytes of a delivery the same bytes follow
+pub prefix_on : (link : ℕ) (s t more : List ℕ) → s ≡ t ++ more → delivery_prefix link s ≡ delivery_prefix link t ++ more
+prefix_on link s t more e =
+    ap (λ l. delivery_prefix link l) e ∙ ap (λ l. 62 ∷ l) (sym (append_assoc (decimal link) (32 ∷ t) more))
 
 pub walk_space : (link byte : ℕ) → Begins byte 0 → Walks (Space link) (byte ∷ []) (Count link (byte - 48))
 walk_space link byte d piece h =
     let high = d.high in
-    ((h.0, h.1, omega arith), front_on link (decimal (byte - 48)) [] (byte ∷ []) (decimal_one byte 0 d))
+    ((h.0, h.1, omega arith), prefix_on link (decimal (byte - 48)) [] (byte ∷ []) (decimal_one byte 0 d))
 
 -- one digit more
 longer_link : (link byte : ℕ) → Lengthens link byte (2 ^ 32 - 1) → IsLink (link * 10 + (byte - 48))
@@ -156,7 +156,7 @@ walk_ended link byte d piece h =
 
 pub walk_count : (link count byte : ℕ) → Lengthens count byte PIECE_LIMIT → Walks (Count link count) (byte ∷ []) (Count link (count * 10 + (byte - 48)))
 walk_count link count byte d piece h =
-    ((h.0, h.1, d.within), front_on link (decimal (count * 10 + (byte - 48))) (decimal count) (byte ∷ []) (decimal_on count byte PIECE_LIMIT (omega arith) d))
+    ((h.0, h.1, d.within), prefix_on link (decimal (count * 10 + (byte - 48))) (decimal count) (byte ∷ []) (decimal_on count byte PIECE_LIMIT (omega arith) d))
 
 -- where no byte of the header leads on
 pub moves_none : (step : Step) (byte : ℕ) (r : Option Step) → r ≡ None → Stops step (byte ∷ []) → Moves step byte r
@@ -217,9 +217,9 @@ close_halts link [] = tt
 close_halts link (byte ∷ bytes) = λ n. stick_close link byte (λ z. n (tt, z))
 
 -- the bytes of a delivery before and after it takes some
-piece_on : (link whole : ℕ) (piece new more : List ℕ) → new ≡ piece ++ more → delivery_front link (decimal whole ++ 10 ∷ new) ≡ delivery_front link (decimal whole ++ 10 ∷ piece) ++ more
+piece_on : (link whole : ℕ) (piece new more : List ℕ) → new ≡ piece ++ more → delivery_prefix link (decimal whole ++ 10 ∷ new) ≡ delivery_prefix link (decimal whole ++ 10 ∷ piece) ++ more
 piece_on link whole piece new more e =
-    front_on link (decimal whole ++ 10 ∷ new) (decimal whole ++ 10 ∷ piece) more (ap (λ l. decimal whole ++ 10 ∷ l) e ∙ sym (append_assoc (decimal whole) (10 ∷ piece) more))
+    prefix_on link (decimal whole ++ 10 ∷ new) (decimal whole ++ 10 ∷ piece) more (ap (λ l. decimal whole ++ 10 ∷ l) e ∙ sym (append_assoc (decimal whole) (10 ∷ piece) more))
 
 -- as many bytes of a delivery are taken as are there or are due
 pub leads_filled : (step next : Step) (link left count : ℕ) (piece new bytes : List ℕ) → step ≡ Inside link left → count ≡ min left (length bytes) → new ≡ piece ++ take count bytes → next ≡ (if left - count == 0 then Close link else Inside link (left - count)) → Leads step piece bytes count next new
@@ -239,7 +239,7 @@ leads_filled step next link left count piece new bytes s c n e =
         subst (λ (s : Step). Leads (Inside link left) piece bytes count s new) (sym e) (record {
           within = within;
           allowed = λ a. let small = a.2 in (a.0, omega (arith, whole, small));
-          grows = λ a. ap (λ k. delivery_front link (decimal k ++ 10 ∷ new)) whole ∙ piece_on link (length piece + left) piece new (take count bytes) n;
+          grows = λ a. ap (λ k. delivery_prefix link (decimal k ++ 10 ∷ new)) whole ∙ piece_on link (length piece + left) piece new (take count bytes) n;
           halts = close_halts link (drop count bytes);
         })
     by_test false t e =
@@ -249,6 +249,6 @@ leads_filled step next link left count piece new bytes s c n e =
         subst (λ (s : Step). Leads (Inside link left) piece bytes count s new) (sym e) (record {
           within = within;
           allowed = λ a. let small = a.2 in (a.0, omega (arith, some), omega (arith, whole, small));
-          grows = λ a. ap (λ k. delivery_front link (decimal k ++ 10 ∷ new)) whole ∙ piece_on link (length piece + left) piece new (take count bytes) n;
+          grows = λ a. ap (λ k. delivery_prefix link (decimal k ++ 10 ∷ new)) whole ∙ piece_on link (length piece + left) piece new (take count bytes) n;
           halts = subst (Halts (Inside link (left - count))) (sym none) tt;
         })

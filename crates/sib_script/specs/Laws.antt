@@ -56,10 +56,10 @@ SplitsExist = (bytes : List ℕ) → (entries : List Entry) × (rest : List ℕ)
 abbrev pub BeginningIsDecided : Type 0
 BeginningIsDecided = (bytes : List ℕ) → BeginsScript bytes ⊎ (BeginsScript bytes → ⊥)
 
--- at most one place is the length of the longest front of the bytes that begins some script
+-- at most one offset is the length of the longest prefix of the bytes that begins some script
 abbrev pub PlacesOnce : Type 0
 PlacesOnce = (bytes : List ℕ) (place other : ℕ) → IsPlace bytes place → IsPlace bytes other → place ≡ other
 
--- all bytes have such a place
+-- all bytes have such an offset
 abbrev pub PlacesExist : Type 0
 PlacesExist = (bytes : List ℕ) → (place : ℕ) × IsPlace bytes place

@@ -1,4 +1,5 @@
 pub mod Script
 pub mod Reading
 pub mod Laws
+pub mod Standing
 pub mod Steps

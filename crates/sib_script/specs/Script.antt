@@ -12,7 +12,7 @@ entry_spelling NewLink = codes "+" ++ 10 ∷ []
 entry_spelling (Bytes link bytes) = codes ">" ++ decimal link ++ codes " " ++ decimal (length bytes) ++ 10 ∷ [] ++ bytes ++ 10 ∷ []
 entry_spelling (End link) = codes "-" ++ decimal link ++ 10 ∷ []
 
--- a link opens and the two bytes `hi` come on it
+-- link 1 opens, and the two bytes `hi` come on it
 hi_script : flat_map entry_spelling (NewLink ∷ Bytes 1 (codes "hi") ∷ []) ≡ 43 ∷ 10 ∷ 62 ∷ 49 ∷ 32 ∷ 50 ∷ 10 ∷ 104 ∷ 105 ∷ 10 ∷ []
 unfolding entry_spelling digits
 hi_script = refl
@@ -63,7 +63,7 @@ pub record Splits (bytes : List ℕ) (entries : List Entry) (rest : List ℕ) : 
   pub spelled : bytes ≡ script_spelling entries ++ rest
   pub partial : (entry : Entry) (more : List ℕ) → IsEntry entry → rest ≢ entry_spelling entry ++ more
 
--- place is the length of the longest front of the bytes that begins some script
+-- the offset is the length of the longest prefix of the bytes that begins some script
 pub record IsPlace (bytes : List ℕ) (place : ℕ) : Type 0 where
   pub within : place ≤ length bytes
   pub begins : BeginsScript (take place bytes)

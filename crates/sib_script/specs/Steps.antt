@@ -9,9 +9,9 @@ use Rattle.sib_script.specs.declared.entry.Entry.TheVariants.{NewLink, Bytes, En
 use Rattle.sib_script.specs.declared.step.Step.{Step}
 use Rattle.sib_script.specs.declared.step.Step.TheVariants.{Start, Plus, Sign, Link, Space, Count, Inside, Close, Minus, Ended}
 
--- the bytes of a delivery on a link, from its first to the space behind its link, and then others
-abbrev pub delivery_front : ℕ → List ℕ → List ℕ
-delivery_front link rest = 62 ∷ (decimal link ++ 32 ∷ rest)
+-- the first bytes of a delivery on a link, up to the space behind the link, and then others
+abbrev pub delivery_prefix : ℕ → List ℕ → List ℕ
+delivery_prefix link rest = 62 ∷ (decimal link ++ 32 ∷ rest)
 
 -- the bytes of an entry so far, of which the piece is the delivery's
 abbrev pub unread_of : Step → List ℕ → List ℕ
@@ -19,10 +19,10 @@ unread_of Start piece = []
 unread_of Plus piece = codes "+"
 unread_of Sign piece = codes ">"
 unread_of (Link link) piece = codes ">" ++ decimal link
-unread_of (Space link) piece = delivery_front link []
-unread_of (Count link count) piece = delivery_front link (decimal count)
-unread_of (Inside link left) piece = delivery_front link (decimal (length piece + left) ++ 10 ∷ piece)
-unread_of (Close link) piece = delivery_front link (decimal (length piece) ++ 10 ∷ piece)
+unread_of (Space link) piece = delivery_prefix link []
+unread_of (Count link count) piece = delivery_prefix link (decimal count)
+unread_of (Inside link left) piece = delivery_prefix link (decimal (length piece + left) ++ 10 ∷ piece)
+unread_of (Close link) piece = delivery_prefix link (decimal (length piece) ++ 10 ∷ piece)
 unread_of Minus piece = codes "-"
 unread_of (Ended link) piece = codes "-" ++ decimal link
 

@@ -16,8 +16,7 @@ pub fn scripts_are_whole()
     ensures rest { RestIsNoScript }
 {}
 
-/// What a reader holds between two entries or inside one begins a script, and goes on so until a byte with which no
-/// entry goes on.
+/// What a reader holds between two entries or inside one begins a script, until a byte with which no entry goes on.
 pub fn parts_begin_scripts()
     ensures parts { PartsSplit }
     ensures dead_ends { DeadEnds }

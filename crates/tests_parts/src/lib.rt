@@ -5,3 +5,5 @@
 mod algebra;
 #[cfg(test)]
 mod links;
+#[cfg(test)]
+mod scripts;

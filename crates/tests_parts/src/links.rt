@@ -7,9 +7,13 @@ use std::test::Fail;
 
 // What is done with a link: it opens, is sent a message, ends, is lost, or gives its oldest message.
 const OPEN: u8 = b'+';
+
 const SEND: u8 = b'>';
+
 const END: u8 = b'-';
+
 const LOSE: u8 = b'!';
+
 const TAKE: u8 = b'<';
 
 const MOST: usize = PENDING_LIMIT as usize;

@@ -1,8 +1,6 @@
--- While an entry waits nothing is taken.
-use Rattle.sib_script.proofs.Reading.{waits_at, step_left}
+-- What a call does tells what the reader stands for after it.
+use Rattle.sib_script.proofs.Standing.{fed_stand}
 use Rattle.sib_script.proofs.reader.ScriptReader.feed.Goals as goal
 
-pub returns-then-is_some-clause-ok : goal.returns-then-is_some-clause-ok
-returns-then-is_some-clause-ok c =
-    let i = c.self.inside in
-    waits_at _ _ c.args.bytes.now c.self.view_is (step_left i.step i.piece.items c.self.invariant) c.if-is_some.ensures
+pub returns-clause-stands : goal.returns-clause-stands
+returns-clause-stands c = fed_stand c.args.self.now c.take.new.self c.args.bytes.now c.take.result c.take.ensures.ok c.take.ensures.refused
