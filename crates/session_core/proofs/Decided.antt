@@ -1,84 +1,108 @@
--- The verdict on a request, in two steps.
-use Rattle.std.proofs.Common.{◌≡◌, ℕ, Bool, true, false, ◌&&◌, not, Option, Some, None, refl, sym, ap, ◌∙◌, if◌then◌else◌}
+-- The verdict on a request, in two steps: the ranks before the limits, and then these.
+use Rattle.std.proofs.Common.{◌≡◌, ℕ, Bool, true, false, ◌&&◌, not, List, [], ◌∷◌, ◌++◌, Option, Some, None, refl, sym, ap, ◌∙◌}
 use Rattle.std.proofs.lemmas.Option.{same_Some}
+use Rattle.std.specs.Option.{option_or, unwrap_or}
+use Rattle.m3_terms.specs.declared.pattern.Pattern.{Pattern}
 use Rattle.ssap_items.specs.declared.heads.Heads.{Heads}
+use Rattle.ssap_items.specs.declared.heads.Transaction.{Transaction}
 use Rattle.ssap_shape.specs.declared.status.Status.{Status}
-use Rattle.ssap_shape.specs.declared.status.Status.TheVariants.{Success, AccessDenied, OutOfResources, NotImplemented, Request as Refused}
+use Rattle.ssap_shape.specs.declared.status.Status.TheVariants.{Success, AccessDenied, NotImplemented, Request as BadRequest}
 use Rattle.ssap_shape.specs.declared.request.Ask.{Ask}
+use Rattle.ssap_shape.specs.declared.request.Ask.TheVariants.{Update}
+use Rattle.ssap_shape.specs.declared.request.Request.{Request}
 use Rattle.ssap_shape.specs.declared.request.Arrived.TheVariants as arrived
 use Rattle.session_core.specs.Space.{Space}
-use Rattle.session_core.specs.Requests.{is_for, is_stranger, is_built, is_unfit, is_over, is_silent, is_success, granted, verdict, confirm}
+use Rattle.session_core.specs.Requests.{is_for, is_stranger, is_built, is_none_of, is_removal, is_unfit, is_success, refuse, Rank, elsewhere, denied, unbuilt, unfit, over, early_ranks, first_of, verdict, confirm}
 use Rattle.session_core.specs.Steps.{queue, delivered}
-use Rattle.session_core.specs.Ranks.{refusal, passed}
+use Rattle.session_core.specs.Ranks.{decided, asking, passed}
 
--- the first of four ranks that applies, and else the limit
-four : (a b c d over : Bool) → Status
-four a b c d over = if a then Refused else if b then AccessDenied else if c then NotImplemented else if d then Refused
-    else if over then OutOfResources else Success
+or_assoc : {A : Type 0} (a b c : Option A) → option_or (option_or a b) c ≡ option_or a (option_or b c)
+or_assoc None b c = refl
+or_assoc (Some a) b c = refl
 
-early : (a b c d : Bool) → Option Status
-early a b c d = if a then Some Refused else if b then Some AccessDenied else if c then Some NotImplemented else if d then Some Refused else None
+or_none : {A : Type 0} (a : Option A) → option_or a None ≡ a
+or_none None = refl
+or_none (Some a) = refl
 
--- a status that refuses
-abbrev pub Refuses : Status → Status → Type 0
-Refuses verdict status = (verdict ≡ status) × (is_success status ≡ false)
+-- the first of some ranks and of others is the first of the former, or else of the latter
+pub first_of-append : (some others : List Rank) (space : Space) (request : Request)
+    → first_of (some ++ others) space request ≡ option_or (first_of some space request) (first_of others space request)
+first_of-append [] others space request = refl
+first_of-append (rank ∷ some) others space request =
+    ap (option_or (rank space request)) (first_of-append some others space request)
+    ∙ sym (or_assoc (rank space request) (first_of some space request) (first_of others space request))
 
-four_refused : (a b c d over : Bool) (status : Status) → early a b c d ≡ Some status → Refuses (four a b c d over) status
-unfolding four early
-four_refused true b c d over status h = let e = same_Some Refused status h in (e, ap is_success (sym e))
-four_refused false true c d over status h = let e = same_Some AccessDenied status h in (e, ap is_success (sym e))
-four_refused false false true d over status h = let e = same_Some NotImplemented status h in (e, ap is_success (sym e))
-four_refused false false false true over status h = let e = same_Some Refused status h in (e, ap is_success (sym e))
-four_refused false false false false over status h = cc
+-- the verdict is that of the ranks before the limits, or else of these
+verdict_is : (space : Space) (request : Request) → verdict space request ≡ unwrap_or (option_or (first_of early_ranks space request) (over space request)) Success
+verdict_is space request =
+    ap (λ o. unwrap_or o Success) (first_of-append early_ranks (over ∷ []) space request
+    ∙ ap (option_or (first_of early_ranks space request)) (or_none (over space request)))
 
-four_passed : (a b c d over : Bool) → early a b c d ≡ None → four a b c d over ≡ (if over then OutOfResources else Success)
-unfolding four early
-four_passed true b c d over h = cc
-four_passed false true c d over h = cc
-four_passed false false true d over h = cc
-four_passed false false false true over h = cc
-four_passed false false false false over h = refl
+-- a status that ranks give refuses
+abbrev Refuses : Option Status → Type 0
+Refuses found = (status : Status) → found ≡ Some status → is_success status ≡ false
 
-and_false : (b : Bool) → (b && false) ≡ false
-and_false true = refl
-and_false false = refl
+refuse_refuses : (refuses : Bool) (status : Status) → is_success status ≡ false → Refuses (refuse refuses status)
+refuse_refuses true status e other h = ap is_success (sym (same_Some status other h)) ∙ e
+refuse_refuses false status e other h = cc
 
-and_true : (b : Bool) → (b && true) ≡ b
-and_true true = refl
-and_true false = refl
+or_refuses : (a b : Option Status) → Refuses a → Refuses b → Refuses (option_or a b)
+or_refuses None b f g = g
+or_refuses (Some a) b f g = f
 
--- the space after a request with this verdict
-abbrev decided : Space → ℕ → Heads → Ask → Status → Space
-decided space link heads ask status =
-    queue (if is_success status then granted space heads ask else space) link
-    (if is_silent ask && is_success status then None else Some (confirm heads status))
+none_refuses : Refuses None
+none_refuses status h = cc
 
-decided_refused : (space : Space) (link : ℕ) (heads : Heads) (ask : Ask) (status : Status) → is_success status ≡ false
-    → decided space link heads ask status ≡ queue space link (Some (confirm heads status))
-decided_refused space link heads ask status e =
-    rw e (ap (λ b. queue space link (if b then None else Some (confirm heads status))) (and_false (is_silent ask)))
+early_refuses : (space : Space) (request : Request) → Refuses (first_of early_ranks space request)
+early_refuses space request =
+    or_refuses (elsewhere space request) _ (refuse_refuses (not (is_for space request.heads)) BadRequest refl)
+    (or_refuses (denied space request) _ (refuse_refuses (is_stranger space request.heads request.ask) AccessDenied refl)
+    (or_refuses (unbuilt space request) _ (refuse_refuses (not (is_built request.heads.transaction request.ask)) NotImplemented refl)
+    (or_refuses (unfit space request) _ (refuse_refuses (is_unfit request.ask) BadRequest refl) none_refuses)))
 
-decided_passed : (space : Space) (link : ℕ) (heads : Heads) (ask : Ask) (over : Bool)
-    → decided space link heads ask (if over then OutOfResources else Success)
-    ≡ (if over then queue space link (Some (confirm heads OutOfResources))
-    else queue (granted space heads ask) link (if is_silent ask then None else Some (confirm heads Success)))
-decided_passed space link heads ask true = decided_refused space link heads ask OutOfResources refl
-decided_passed space link heads ask false =
-    ap (λ b. queue (granted space heads ask) link (if b then None else Some (confirm heads Success))) (and_true (is_silent ask))
+-- a request that is refused changes nothing, and its confirm tells the status alone
+pub decided_refused : (space : Space) (link : ℕ) (request : Request) (status : Status) → is_success status ≡ false
+    → decided space link request status ≡ queue space link (Some (confirm request.heads status))
+decided_refused space link request status e = rw e refl
 
--- a request that a rank refuses is answered so, and nothing else happens
-pub delivered_refused : (space : Space) (link : ℕ) (heads : Heads) (ask : Ask) (status : Status) → refusal space heads ask ≡ Some status
-    → delivered space link (arrived.Request (record { heads = heads; ask = ask })) ≡ queue space link (Some (confirm heads status))
-unfolding four early
-delivered_refused space link heads ask status h =
-    let r = four_refused (not (is_for space heads)) (is_stranger space heads ask) (not (is_built heads.transaction ask)) (is_unfit ask) (is_over space heads ask) status h in
-    ap (decided space link heads ask) r.0 ∙ decided_refused space link heads ask status r.1
+-- a request that a rank before the limits refuses is answered so, and nothing else happens
+pub delivered_refused : (space : Space) (link : ℕ) (request : Request) (status : Status) → first_of early_ranks space request ≡ Some status
+    → delivered space link (arrived.Request request) ≡ queue space link (Some (confirm request.heads status))
+delivered_refused space link request status h =
+    let same : verdict space request ≡ status = verdict_is space request ∙ ap (λ o. unwrap_or (option_or o (over space request)) Success) h in
+    ap (decided space link request) same ∙ decided_refused space link request status (early_refuses space request status h)
 
--- a request that no rank refuses is told success or that it would pass a limit
-pub delivered_passed : (space : Space) (link : ℕ) (heads : Heads) (ask : Ask) → refusal space heads ask ≡ None
-    → delivered space link (arrived.Request (record { heads = heads; ask = ask })) ≡ passed space link heads ask
-unfolding four early
+-- a request that no rank before the limits refuses is granted, or refused by a limit
+pub delivered_passed : (space : Space) (link : ℕ) (heads : Heads) (ask : Ask) → first_of early_ranks space (asking heads ask) ≡ None
+    → delivered space link (arrived.Request (asking heads ask)) ≡ passed space link heads ask
 delivered_passed space link heads ask h =
-    ap (decided space link heads ask)
-    (four_passed (not (is_for space heads)) (is_stranger space heads ask) (not (is_built heads.transaction ask)) (is_unfit ask) (is_over space heads ask) h)
-    ∙ decided_passed space link heads ask (is_over space heads ask)
+    ap (decided space link (asking heads ask))
+    (verdict_is space (asking heads ask) ∙ ap (λ o. unwrap_or (option_or o (over space (asking heads ask))) Success) h)
+
+-- of ranks of which none refuses, neither the first nor another does
+none_first : (a b : Option Status) → option_or a b ≡ None → a ≡ None
+none_first None b h = refl
+none_first (Some a) b h = cc
+
+none_later : (a b : Option Status) → option_or a b ≡ None → b ≡ None
+none_later None b h = h
+none_later (Some a) b h = cc
+
+passes_refuse : (passes : Bool) (status : Status) → refuse (not passes) status ≡ None → passes ≡ true
+passes_refuse true status h = refl
+passes_refuse false status h = cc
+
+-- what passes the ranks before the limits is built
+pub passes_built : (space : Space) (request : Request) → first_of early_ranks space request ≡ None → is_built request.heads.transaction request.ask ≡ true
+passes_built space request h =
+    let later = none_later (denied space request) _ (none_later (elsewhere space request) _ h) in
+    passes_refuse (is_built request.heads.transaction request.ask) NotImplemented (none_first (unbuilt space request) _ later)
+
+-- no patterns are no patterns
+none_of : (patterns : List Pattern) (other : Bool) → (is_none_of patterns && other) ≡ true → patterns ≡ []
+none_of [] other h = refl
+none_of (pattern ∷ patterns) other h = cc
+
+-- and an update that is built removes nothing
+pub built_inserts : (kind : Transaction) (remove insert : List Pattern) (wanted : Bool) → is_built kind (Update remove insert wanted) ≡ true → remove ≡ []
+built_inserts kind remove insert wanted h = none_of remove (not (is_removal kind insert)) h

@@ -1,26 +1,27 @@
 -- Graphs to which triples are added.
-use Rattle.std.proofs.Common.{◌≡◌, if◌then◌else◌, ℕ, ◌+◌, ◌<◌, ◌≤◌, ◌⊎◌, ◌↔◌, Bool, true, false, not, List, [], ◌∷◌, ◌++◌, length, filter, Contains, IsTrue, Result, Ok, Err, IfOk, IfErr, OnOk, OnErr, refl, sym, ap, subst, ◌∙◌, inl, inr, arith}
+use Rattle.std.proofs.Common.{◌≡◌, ℕ, ◌+◌, ◌≤◌, ◌⊎◌, ◌↔◌, Bool, true, false, not, List, [], ◌∷◌, length, filter, Contains, IsTrue, Result, Ok, Err, IfOk, IfErr, OnOk, OnErr, refl, sym, ap, subst, ◌∙◌, inl, inr}
 use Rattle.std.proofs.lemmas.Cmp.{eq_by_cmp_equiv}
-use Rattle.std.proofs.lemmas.List.Elements.{All-contains, All-cons}
+use Rattle.std.proofs.lemmas.List.Elements.{All-contains, filter_passes}
 use Rattle.std.proofs.lemmas.List.Kept.{IsStrictlySortedBy-dedup, IsStrictlySortedBy-filter, Contains-dedup, Contains-from_dedup}
 use Rattle.std.proofs.lemmas.List.Sorted.{Contains-permutation, IsPermutation-sym}
-use Rattle.std.proofs.lemmas.Map.Keys.{sorted_tail}
-use Rattle.std.proofs.lemmas.Map.Views.{All-after_first, list_any-from_Contains, Contains-from_any, tells_apart}
-use Rattle.std.specs.List.{All, HoldsAt, insert, dedup, list_any}
+use Rattle.std.proofs.lemmas.Map.Views.{list_any-from_Contains, Contains-from_any, tells_apart}
+use Rattle.std.specs.List.{HoldsAt, insert, dedup, list_any}
 use Rattle.std.specs.List.Sorted.{IsSorted, IsPermutation, IsStrictlySortedBy, IsSearchInRange, IsBinarySearchResult}
 use Rattle.std.specs.Ordering.{eq_by_cmp}
-use Rattle.std.specs.declared.cmp.Ordering.TheVariants.{Less, Equal}
+use Rattle.std.specs.declared.cmp.Ordering.TheVariants.{Equal}
 use mathlib.Core.Bool.{true≢false}
 use mathlib.Core.Logic.{⊎_elim}
 use Rattle.m3_terms.specs.Inserted.{inserted}
-use Rattle.m3_terms.specs.InsertedLaws.{inserted_sorted, inserted_has, cons_cases, head_in, tail_in, was_there, is_kept}
+use Rattle.m3_terms.specs.InsertedLaws.{was_there, is_kept}
 use Rattle.m3_terms.specs.Order.{triple_cmp, triple_eq}
 use Rattle.m3_terms.specs.OrderLaws.{triple_cmp_total, triple_cmp_exact, triple_eq_equiv, triple_exact, triple_ties}
 use Rattle.m3_terms.specs.declared.memory.NoMemory.{NoMemory}
+use Rattle.m3_terms.specs.declared.pattern.Pattern.{Pattern}
 use Rattle.m3_terms.specs.declared.triple.Triple.{Triple}
-use Rattle.session_core.specs.Space.{with_triples}
+use Rattle.session_core.specs.Graph.{with_triples, graph_after, triples_of, fits_any}
 use Rattle.session_core.specs.Fresh.{lacks, IsFresh}
-use Rattle.session_core.proofs.Sets.{sorted_same, one_longer, inserted_there, absent_there, rising}
+use Rattle.m3_terms.proofs.OrderedKeys.{sorted_same, inserted_there, absent_there, rising}
+use Rattle.session_core.proofs.Updates.{all_ordered, all_cases, all_old, all_new, all_longer, after_ordered, after_none}
 
 -- two triples that compare alike are one
 pub triple_one : (s t : Triple) → triple_cmp s t ≡ Equal → s ≡ t
@@ -36,8 +37,7 @@ none_ordered graph e = subst (IsStrictlySortedBy triple_cmp) (sym e) nil_ordered
 
 -- a graph in order stays so
 pub with_ordered : (graph triples : List Triple) → IsStrictlySortedBy triple_cmp graph → IsStrictlySortedBy triple_cmp (with_triples graph triples)
-with_ordered graph [] s = s
-with_ordered graph (t ∷ ts) s = with_ordered (inserted triple_cmp t graph) ts (inserted_sorted triple_cmp_total triple_one t graph s)
+with_ordered = all_ordered triple_cmp_total triple_one
 
 -- and so it does where memory may end
 pub added_ordered : (graph triples new : List Triple) (r : Result (Unit {0}) NoMemory) → IsStrictlySortedBy triple_cmp graph
@@ -45,50 +45,18 @@ pub added_ordered : (graph triples new : List Triple) (r : Result (Unit {0}) NoM
 added_ordered graph triples new (Ok done) s e f = subst (IsStrictlySortedBy triple_cmp) (sym e) (with_ordered graph triples s)
 added_ordered graph triples new (Err refused) s e f = subst (IsStrictlySortedBy triple_cmp) (sym f) s
 
--- triples are added one after another
-pub with_more : (graph xs ys : List Triple) → with_triples graph (xs ++ ys) ≡ with_triples (with_triples graph xs) ys
-with_more graph [] ys = refl
-with_more graph (x ∷ xs) ys = with_more (inserted triple_cmp x graph) xs ys
+-- and in an update
+pub update_ordered : (graph : List Triple) (remove insert : List Pattern) → IsStrictlySortedBy triple_cmp graph → IsStrictlySortedBy triple_cmp (graph_after graph remove insert)
+update_ordered graph remove insert = after_ordered triple_cmp_total triple_one (fits_any remove) graph (triples_of insert)
+
+-- an update that removes nothing adds triples
+pub update_adds : (graph : List Triple) (insert : List Pattern) → graph_after graph [] insert ≡ with_triples graph (triples_of insert)
+update_adds graph insert = after_none triple_cmp (fits_any []) graph (triples_of insert) (λ triple. refl)
 
 -- a triple of some is added before the others
 pub with_next : (graph more triples rest : List Triple) (triple : Triple) → more ≡ inserted triple_cmp triple graph → triples ≡ triple ∷ rest
     → with_triples more rest ≡ with_triples graph triples
 with_next graph more triples rest triple e f = ap (λ l. with_triples l rest) e ∙ ap (with_triples graph) (sym f)
-
--- what is there once triples were added was there or is one of them
-pub with_cases : (graph triples : List Triple) (q : Triple) → Contains (with_triples graph triples) q → Contains graph q ⊎ Contains triples q
-with_cases graph [] q c = inl c
-with_cases graph (t ∷ ts) q c = ⊎_elim
-    (λ there. ⊎_elim (λ e. inr (subst (Contains (t ∷ ts)) (sym e) (head_in t ts))) inl ((inserted_has triple_one t graph q).0 there))
-    (λ later. inr (tail_in t ts q later))
-    (with_cases (inserted triple_cmp t graph) ts q c)
-
--- what was there stays
-pub with_old : (graph triples : List Triple) (q : Triple) → Contains graph q → Contains (with_triples graph triples) q
-with_old graph [] q c = c
-with_old graph (t ∷ ts) q c = with_old (inserted triple_cmp t graph) ts q ((inserted_has triple_one t graph q).1 (inr c))
-
--- and what is added is there
-pub with_new : (graph triples : List Triple) (q : Triple) → Contains triples q → Contains (with_triples graph triples) q
-with_new graph [] q c = absurd (let below : c.0 < 0 = c.1 in omega arith)
-with_new graph (t ∷ ts) q c = ⊎_elim
-    (λ e. with_old (inserted triple_cmp t graph) ts q ((inserted_has triple_one t graph q).1 (inl (sym e))))
-    (λ later. with_new (inserted triple_cmp t graph) ts q later)
-    (cons_cases t ts q c)
-
--- triples in order of which none is there make the graph longer by as many
-pub with_longer : (graph triples : List Triple) → IsStrictlySortedBy triple_cmp graph → IsStrictlySortedBy triple_cmp triples
-    → ((q : Triple) → Contains triples q → Contains graph q → ⊥) → length (with_triples graph triples) ≡ length graph + length triples
-with_longer graph [] s f n = omega arith
-with_longer graph (t ∷ ts) s f n =
-    let more = one_longer triple_cmp_total triple_one t graph s (n t (head_in t ts)) in
-    let rest = with_longer (inserted triple_cmp t graph) ts (inserted_sorted triple_cmp_total triple_one t graph s) (sorted_tail triple_cmp t ts f)
-    (λ q c d. ⊎_elim
-    (λ (e : q ≡ t). let below : triple_cmp t q ≡ Less = All-contains (λ z. triple_cmp t z ≡ Less) ts q (All-after_first triple_cmp t ts f) c in
-    let same : triple_cmp t q ≡ Equal = (triple_cmp_exact t q).1 (sym e) in cc)
-    (n q (tail_in t ts q c))
-    ((inserted_has triple_one t graph q).0 d)) in
-    omega arith
 
 -- a test that would make false true is false
 unfound : (found : Bool) → (found ≡ true → false ≡ true) → false ≡ found
@@ -117,27 +85,21 @@ there_or_lacking : (graph triples : List Triple) (q : Triple) (lacked : Bool) �
 there_or_lacking graph triples q true h c = inr (is_kept (lacks graph) triples q h c)
 there_or_lacking graph triples q false h c = inl (Contains-from_any (tells_apart triple_one) q graph (found (list_any (eq_by_cmp triple_cmp q) graph) h))
 
--- what is kept by a test passes it
-kept_passes : {X : Type 0} (test : X → Bool) (x : X) (rest : List X) (answer : Bool) → test x ≡ answer → All (λ y. test y ≡ true) rest
-    → All (λ y. test y ≡ true) (if answer then x ∷ rest else rest)
-kept_passes test x rest true h each = All-cons (λ y. test y ≡ true) x rest h each
-kept_passes test x rest false h each = each
-
-each_passes : {X : Type 0} (test : X → Bool) (xs : List X) → All (λ y. test y ≡ true) (filter test xs)
-each_passes test [] = λ k d below. absurd (omega arith)
-each_passes test (x ∷ xs) = kept_passes test x (filter test xs) (test x) refl (each_passes test xs)
-
 pub fresh_same : (graph triples fresh : List Triple) → IsStrictlySortedBy triple_cmp graph → IsFresh graph triples fresh
     → with_triples graph fresh ≡ with_triples graph triples
 fresh_same graph triples fresh s f = sorted_same triple_cmp_total _ _ (with_ordered graph fresh s) (with_ordered graph triples s)
-    (λ q c. ⊎_elim (with_old graph triples q) (λ d. with_new graph triples q (f.from q d)) (with_cases graph fresh q c))
-    (λ q c. ⊎_elim (with_old graph fresh q)
-    (λ d. ⊎_elim (with_old graph fresh q) (with_new graph fresh q) (f.all q d))
-    (with_cases graph triples q c))
+    (λ q c. ⊎_elim (old triples q) (λ d. new triples q (f.from q d)) (all_cases triple_cmp_total triple_one graph fresh q c))
+    (λ q c. ⊎_elim (old fresh q) (λ d. ⊎_elim (old fresh q) (new fresh q) (f.all q d)) (all_cases triple_cmp_total triple_one graph triples q c))
+  where
+    old : (more : List Triple) (q : Triple) → Contains graph q → Contains (with_triples graph more) q
+    old = all_old triple_cmp_total triple_one graph
+
+    new : (more : List Triple) (q : Triple) → Contains more q → Contains (with_triples graph more) q
+    new = all_new triple_cmp_total triple_one graph
 
 pub fresh_length : (graph triples fresh : List Triple) → IsStrictlySortedBy triple_cmp graph → IsFresh graph triples fresh
     → length (with_triples graph triples) ≡ length graph + length fresh
-fresh_length graph triples fresh s f = ap length (sym (fresh_same graph triples fresh s f)) ∙ with_longer graph fresh s f.sorted f.absent
+fresh_length graph triples fresh s f = ap length (sym (fresh_same graph triples fresh s f)) ∙ all_longer triple_cmp_total triple_one graph fresh s f.sorted f.absent
 
 -- triples that are sorted, of which equal ones are dropped, and of which those that the graph lacks are kept
 pub fresh_of : (graph triples sorted : List Triple) → IsPermutation triples sorted → IsSorted triple_cmp sorted
@@ -148,7 +110,7 @@ fresh_of graph triples sorted p s =
     record {
       sorted = IsStrictlySortedBy-filter triple_cmp (lacks graph) (dedup triple_eq sorted) (IsStrictlySortedBy-dedup triple_cmp_total triple_ties sorted s);
       from = λ q c. Contains-permutation sorted triples q (IsPermutation-sym triples sorted p) (Contains-from_dedup triple_eq sorted q (kept q c));
-      absent = λ q c. lacking graph q (All-contains (λ t. lacks graph t ≡ true) _ q (each_passes (lacks graph) (dedup triple_eq sorted)) c);
+      absent = λ q c. lacking graph q (All-contains (λ t. lacks graph t ≡ true) _ q (filter_passes (lacks graph) (dedup triple_eq sorted)) c);
       all = λ q c. there_or_lacking graph (dedup triple_eq sorted) q (lacks graph q) refl
           (Contains-dedup triple_eq_equiv one sorted q (Contains-permutation triples sorted q p c));
     }

@@ -1,5 +1,7 @@
-pub mod Sets
+pub mod Updates
 pub mod Graphs
+pub mod Fitting
+pub mod Standing
 pub mod Changes
 pub mod Told
 pub mod Decided

@@ -3,7 +3,8 @@ use Rattle.std.proofs.Common.{◌≡◌, ◌≢◌, ◌⊎◌, ℕ, zero, suc, B
 use Rattle.std.proofs.lemmas.Bool.{cases_eq, eq-eqb, ne_eqb}
 use Rattle.std.proofs.lemmas.List.{drop_at}
 use mathlib.Core.Bool.{true≢false}
-use Rattle.link_table.specs.Links.{Link, is_open, new_link, closed_link, with_message, fits, sent, ended, lost, taken, link_at, changed, state_of, pending_of, pending_or_none, is_full}
+use mathlib.Core.Logic.{⊎_elim}
+use Rattle.link_table.specs.Links.{Link, is_open, new_link, closed_link, with_message, fits, sent, ended, lost, taken, link_at, changed, state_of, state_or_never, pending_of, pending_or_none, is_full}
 use Rattle.link_table.specs.declared.state.LinkState.{LinkState}
 use Rattle.link_table.specs.declared.state.LinkState.TheVariants.{Never, Open, Ended, Overrun, Gone}
 use Rattle.ssap_shape.specs.declared.request.Arrived.{Arrived}
@@ -12,7 +13,7 @@ use Rattle.session_core.specs.Space.{Space, empty_space}
 use Rattle.session_core.specs.Requests.{done, confirm, confirm_due, wrong_status}
 use Rattle.session_core.specs.Steps.{Step, queue, delivered, with_links, on_open, on_opened, idle, take_step, taken_from as step_from, step}
 use Rattle.session_core.specs.Runs.{run_from, sent_by, sent_from, message_in, taken_by, taken_from, loses}
-use Rattle.session_core.specs.Laws.{SentTakenWaiting}
+use Rattle.session_core.specs.Laws.{SentTakenWaiting, TakenOfSent}
 use Rattle.session_core.specs.declared.call.Call.{Call}
 use Rattle.session_core.specs.declared.call.Call.TheVariants as call
 use Rattle.session_core.proofs.Changes.{link_at-place, changed-none, changed-there, changed-apart, push_there, push_old}
@@ -224,19 +225,22 @@ loses_here (call.Lost link) calls number h = here (link == number) (loses calls 
     here false later e = refl
 loses_here (call.Take link) calls number h = refl
 
+-- what is sent in two parts is taken in two parts
+in_parts : (waiting sent_now taken_now waiting_then sent_later taken_later rest : List (List ℕ)) → waiting ++ sent_now ≡ taken_now ++ waiting_then
+    → waiting_then ++ sent_later ≡ taken_later ++ rest → waiting ++ (sent_now ++ sent_later) ≡ (taken_now ++ taken_later) ++ rest
+in_parts waiting sent_now taken_now waiting_then sent_later taken_later rest now later =
+    sym (append_assoc waiting sent_now sent_later) ∙ ap (λ l. l ++ sent_later) now ∙ append_assoc taken_now waiting_then sent_later
+    ∙ ap (λ l. taken_now ++ l) later ∙ sym (append_assoc taken_now taken_later rest)
+
 -- what waited and what calls send is what they take and what waits then
 run_sends : (space : Space) (calls : List Call) (number : ℕ) → loses calls number ≡ false
     → pending_of space.links number ++ sent_from space calls number ≡ taken_from space calls number ++ pending_of (run_from space calls).links number
 run_sends space [] number h = append-nil (pending_of space.links number)
 run_sends space (one ∷ calls) number h =
     let after = (step space one).space in
-    let first = step_sends space one number (loses_here one calls number h) in
-    let rest = run_sends after calls number (loses_rest one calls number h) in
-    sym (append_assoc (pending_of space.links number) (sent_by space one number) (sent_from after calls number))
-    ∙ ap (λ l. l ++ sent_from after calls number) first
-    ∙ append_assoc (taken_by space one number) (pending_of after.links number) (sent_from after calls number)
-    ∙ ap (λ l. taken_by space one number ++ l) rest
-    ∙ sym (append_assoc (taken_by space one number) (taken_from after calls number) (pending_of (run_from after calls).links number))
+    in_parts (pending_of space.links number) (sent_by space one number) (taken_by space one number) (pending_of after.links number)
+    (sent_from after calls number) (taken_from after calls number) (pending_of (run_from after calls).links number)
+    (step_sends space one number (loses_here one calls number h)) (run_sends after calls number (loses_rest one calls number h))
 
 -- where no link opened nothing waits
 none_waits : (number : ℕ) → pending_of [] number ≡ []
@@ -246,3 +250,162 @@ none_waits (suc place) = ap pending_or_none (link_at-place [] place)
 pub sent_taken_waiting : SentTakenWaiting
 sent_taken_waiting name history number h =
     ap (λ l. l ++ sent_from (empty_space name) history number) (sym (none_waits number)) ∙ run_sends (empty_space name) history number h
+
+-- a link that is gone
+abbrev gone_link : Link
+gone_link = record { state = Gone; pending = [] }
+
+-- the link of this number is gone
+abbrev IsGone : List Link → ℕ → Type 0
+IsGone links number = link_at links number ≡ Some gone_link
+
+gone_at : (change : Link → Link) → change gone_link ≡ gone_link → (links : List Link) (number other : ℕ) → IsGone links other → (other ≡ number) ⊎ (other ≢ number)
+    → IsGone (changed change links number) other
+gone_at change stays links number other h (inl e) =
+    subst (IsGone (changed change links number)) (sym e) (changed-there change links number gone_link (subst (IsGone links) e h) ∙ ap Some stays)
+gone_at change stays links number other h (inr n) = changed-apart change links number other n ∙ h
+
+-- it stays so where a link changes, by what leaves a link that is gone as it is
+gone_changed : (change : Link → Link) → change gone_link ≡ gone_link → (links : List Link) (number other : ℕ) → IsGone links other → IsGone (changed change links number) other
+gone_changed change stays links number other h = gone_at change stays links number other h (cases_eq other number)
+
+-- and where a link opens
+gone_opened : (links : List Link) (number : ℕ) → IsGone links number → IsGone (links ++ new_link ∷ []) number
+gone_opened links zero h = cc
+gone_opened links (suc place) h =
+    link_at-place (links ++ new_link ∷ []) place ∙ push_old links place new_link gone_link (sym (link_at-place links place) ∙ h)
+
+gone_queued : (old new : Space) (link : ℕ) (due : Option (List ℕ)) (number : ℕ) → new.links ≡ old.links → IsGone old.links number → IsGone (queue new link due).links number
+gone_queued old new link None number e h = subst (λ links. IsGone links number) (sym e) h
+gone_queued old new link (Some message) number e h =
+    gone_changed (sent message) refl new.links link number (subst (λ links. IsGone links number) (sym e) h)
+
+gone_delivered : (space : Space) (link : ℕ) (arrived : Arrived) (number : ℕ) → IsGone space.links number → IsGone (delivered space link arrived).links number
+gone_delivered space link NotRequest number h = gone_changed ended refl space.links link number h
+gone_delivered space link (Wrong heads status) number h = gone_queued space space link (Some (confirm heads (wrong_status space heads status))) number refl h
+gone_delivered space link (Request request) number h = gone_queued space (done space request) link (confirm_due space request) number (done_links space request) h
+
+gone_on_open : (state : LinkState) (old new : Space) (number : ℕ) → IsGone old.links number → IsGone new.links number → IsGone (on_open state old new).space.links number
+gone_on_open Never old new number h k = h
+gone_on_open Open old new number h k = k
+gone_on_open Ended old new number h k = h
+gone_on_open Overrun old new number h k = h
+gone_on_open Gone old new number h k = h
+
+gone_on_opened : (state : LinkState) (old new : Space) (number : ℕ) → IsGone old.links number → IsGone new.links number → IsGone (on_opened state old new).space.links number
+gone_on_opened Never old new number h k = h
+gone_on_opened Open old new number h k = k
+gone_on_opened Ended old new number h k = k
+gone_on_opened Overrun old new number h k = k
+gone_on_opened Gone old new number h k = k
+
+gone_either : (full : Bool) (refused opened : Step) (number : ℕ) → IsGone refused.space.links number → IsGone opened.space.links number
+    → IsGone (if full then refused else opened).space.links number
+gone_either true refused opened number h k = h
+gone_either false refused opened number h k = k
+
+gone_taken : (space : Space) (link : ℕ) (found : Option Link) (number : ℕ) → IsGone space.links number → IsGone (take_step space link found).space.links number
+gone_taken space link None number h = h
+gone_taken space link (Some one) number h = by_pending one.pending
+  where
+    by_pending : (pending : List (List ℕ)) → IsGone (step_from space link one.state pending).space.links number
+    by_pending [] = h
+    by_pending (message ∷ pending) = gone_changed taken refl space.links link number h
+
+-- a link that is gone stays so
+step_gone : (space : Space) (one : Call) (number : ℕ) → IsGone space.links number → IsGone (step space one).space.links number
+step_gone space call.NewLink number h = gone_either (is_full space.links) _ _ number h (gone_opened space.links number h)
+step_gone space (call.Deliver link arrived) number h =
+    gone_on_open (state_of space.links link) space (delivered space link arrived) number h (gone_delivered space link arrived number h)
+step_gone space (call.End link) number h =
+    gone_on_open (state_of space.links link) space (with_links space (changed ended space.links link)) number h (gone_changed ended refl space.links link number h)
+step_gone space (call.Lost link) number h =
+    gone_on_opened (state_of space.links link) space (with_links space (changed lost space.links link)) number h (gone_changed lost refl space.links link number h)
+step_gone space (call.Take link) number h = gone_taken space link (link_at space.links link) number h
+
+gone_takes_one : (space : Space) (one : Call) (number : ℕ) → IsGone space.links number → taken_by space one number ≡ []
+gone_takes_one space call.NewLink number h = refl
+gone_takes_one space (call.Deliver link arrived) number h = refl
+gone_takes_one space (call.End link) number h = refl
+gone_takes_one space (call.Lost link) number h = refl
+gone_takes_one space (call.Take link) number h = ⊎_elim
+    (λ (e : link ≡ number).
+    ap (λ b. if b then message_in (step space (call.Take link)).reply else []) (eq-eqb link number e)
+    ∙ ap (λ found. message_in (take_step space link found).reply) (subst (IsGone space.links) (sym e) h))
+    (λ n. ap (λ b. if b then message_in (step space (call.Take link)).reply else []) (ne_eqb link number n))
+    (cases_eq link number)
+
+-- and nothing is taken from it
+gone_takes : (space : Space) (calls : List Call) (number : ℕ) → IsGone space.links number → taken_from space calls number ≡ []
+gone_takes space [] number h = refl
+gone_takes space (one ∷ calls) number h =
+    ap (λ l. l ++ taken_from (step space one).space calls number) (gone_takes_one space one number h)
+    ∙ gone_takes (step space one).space calls number (step_gone space one number h)
+
+-- a link that is to be lost is gone then, or nothing changes
+lost_gone : (space : Space) (number : ℕ) (found : Option Link) → link_at space.links number ≡ found
+    → ((step space (call.Lost number)).space ≡ space) ⊎ IsGone (step space (call.Lost number)).space.links number
+lost_gone space number None h = inl (ap (λ o. (on_opened (state_or_never o) space (with_links space (changed lost space.links number))).space) h)
+lost_gone space number (Some link) h = by_state link.state (ap state_or_never h)
+  where
+    new : Space
+    new = with_links space (changed lost space.links number)
+
+    gone : (state : LinkState) → (on_opened state space new).space ≡ new → state_of space.links number ≡ state
+        → ((step space (call.Lost number)).space ≡ space) ⊎ IsGone (step space (call.Lost number)).space.links number
+    gone state is e = inr (ap (λ (s : Space). link_at s.links number) (ap (λ s. (on_opened s space new).space) e ∙ is) ∙ changed-there lost space.links number link h)
+
+    by_state : (state : LinkState) → state_of space.links number ≡ state → ((step space (call.Lost number)).space ≡ space) ⊎ IsGone (step space (call.Lost number)).space.links number
+    by_state Never e = inl (ap (λ s. (on_opened s space new).space) e)
+    by_state Open e = gone Open refl e
+    by_state Ended e = gone Ended refl e
+    by_state Overrun e = gone Overrun refl e
+    by_state Gone e = gone Gone refl e
+
+-- what is taken is a prefix of what waited and is sent
+abbrev TakesPrefix : Space → List Call → ℕ → Type 0
+TakesPrefix space calls number = (rest : List (List ℕ)) × (pending_of space.links number ++ sent_from space calls number ≡ taken_from space calls number ++ rest)
+
+takes_more : (space : Space) (one : Call) (calls : List Call) (number : ℕ)
+    → pending_of space.links number ++ sent_by space one number ≡ taken_by space one number ++ pending_of (step space one).space.links number
+    → TakesPrefix (step space one).space calls number → TakesPrefix space (one ∷ calls) number
+takes_more space one calls number now later = (
+  later.0,
+  in_parts (pending_of space.links number) (sent_by space one number) (taken_by space one number) (pending_of (step space one).space.links number)
+      (sent_from (step space one).space calls number) (taken_from (step space one).space calls number) later.0 now later.1,
+)
+
+lost_takes : (space : Space) (calls : List Call) (number : ℕ)
+    → ((step space (call.Lost number)).space ≡ space) ⊎ IsGone (step space (call.Lost number)).space.links number
+    → TakesPrefix (step space (call.Lost number)).space calls number → TakesPrefix space (call.Lost number ∷ calls) number
+lost_takes space calls number (inl same) later =
+    takes_more space (call.Lost number) calls number
+    (append-nil (pending_of space.links number) ∙ sym (ap (λ (s : Space). pending_of s.links number) same)) later
+lost_takes space calls number (inr gone) later =
+    let all = pending_of space.links number ++ sent_from (step space (call.Lost number)).space calls number in
+    (all, sym (ap (λ l. l ++ all) (gone_takes (step space (call.Lost number)).space calls number gone)))
+
+one_takes : (space : Space) (one : Call) (calls : List Call) (number : ℕ) → TakesPrefix (step space one).space calls number → TakesPrefix space (one ∷ calls) number
+one_takes space call.NewLink calls number later = takes_more space call.NewLink calls number (step_sends space call.NewLink number refl) later
+one_takes space (call.Deliver link arrived) calls number later =
+    takes_more space (call.Deliver link arrived) calls number (step_sends space (call.Deliver link arrived) number refl) later
+one_takes space (call.End link) calls number later = takes_more space (call.End link) calls number (step_sends space (call.End link) number refl) later
+one_takes space (call.Lost link) calls number later = by_link (cases_eq link number)
+  where
+    by_link : (link ≡ number) ⊎ (link ≢ number) → TakesPrefix space (call.Lost link ∷ calls) number
+    by_link (inl e) =
+        subst (λ k. TakesPrefix space (call.Lost k ∷ calls) number) (sym e)
+        (lost_takes space calls number (lost_gone space number (link_at space.links number) refl)
+        (subst (λ k. TakesPrefix (step space (call.Lost k)).space calls number) e later))
+    by_link (inr n) =
+        takes_more space (call.Lost link) calls number (step_sends space (call.Lost link) number (ap (λ b. if b then true else false) (ne_eqb link number n))) later
+one_takes space (call.Take link) calls number later = takes_more space (call.Take link) calls number (step_sends space (call.Take link) number refl) later
+
+run_takes : (space : Space) (calls : List Call) (number : ℕ) → TakesPrefix space calls number
+run_takes space [] number = (pending_of space.links number, append-nil (pending_of space.links number))
+run_takes space (one ∷ calls) number = one_takes space one calls number (run_takes (step space one).space calls number)
+
+pub taken_of_sent : TakenOfSent
+taken_of_sent name history number =
+    let all = run_takes (empty_space name) history number in
+    (all.0, ap (λ l. l ++ sent_from (empty_space name) history number) (sym (none_waits number)) ∙ all.1)

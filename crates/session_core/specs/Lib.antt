@@ -1,9 +1,11 @@
+pub mod Graph
 pub mod Space
 pub mod Fresh
 pub mod Requests
 pub mod Rings
 pub mod Steps
 pub mod Ranks
+pub mod Reads
 pub mod Kept
 pub mod Runs
 pub mod Laws

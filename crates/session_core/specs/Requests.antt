@@ -1,21 +1,24 @@
--- What a request comes to: the first rank that applies refuses it, and else it is done.
-use Rattle.std.specs.Prelude.{ℕ, Bool, true, false, ◌&&◌, not, nat_le, nat_lt, if◌then◌else◌, List, [], ◌∷◌, length, filter_map, is_none, Option, Some, None}
+-- What a request comes to: the first rank that refuses it decides, and else it is done.
+use Rattle.std.specs.Prelude.{ℕ, Bool, true, false, ◌&&◌, not, nat_le, nat_lt, if◌then◌else◌, List, [], ◌∷◌, ◌++◌, length, is_none, Option, Some, None}
 use Rattle.std.specs.List.{list_any}
+use Rattle.std.specs.Option.{option_or, unwrap_or}
 use Rattle.std.specs.Str.{bytes_eq}
 use Rattle.m3_terms.specs.Pattern.{triple_of}
 use Rattle.m3_terms.specs.declared.pattern.Pattern.{Pattern}
-use Rattle.m3_terms.specs.declared.triple.Triple.{Triple}
 use Rattle.ssap_items.specs.Canon.{canonical}
 use Rattle.ssap_items.specs.declared.heads.Transaction.{Transaction}
 use Rattle.ssap_items.specs.declared.heads.Transaction as transaction
 use Rattle.ssap_items.specs.declared.heads.Heads.{Heads}
+use Rattle.answer_bodies.specs.declared.answer.Answer.{Answer}
 use Rattle.ssap_shape.specs.Replies.{confirm_of}
 use Rattle.ssap_shape.specs.declared.status.Status.{Status}
-use Rattle.ssap_shape.specs.declared.status.Status.TheVariants.{Success, AccessDenied, OutOfResources, NotImplemented, Request as BadRequest}
+use Rattle.ssap_shape.specs.declared.status.Status.TheVariants.{Success, AccessDenied, OutOfResources, NotImplemented, Request as BadRequest, Incomplete, Syntax}
+use Rattle.ssap_shape.specs.declared.reply.Confirm.{Confirm}
 use Rattle.ssap_shape.specs.declared.request.Ask.{Ask}
 use Rattle.ssap_shape.specs.declared.request.Ask.TheVariants.{Join, Leave, Update, Query, Subscribe, Unsubscribe}
 use Rattle.ssap_shape.specs.declared.request.Request.{Request}
-use Rattle.session_core.specs.Space.{Space, is_member, with_node, without_node, with_triples, updated}
+use Rattle.session_core.specs.Space.{Space, is_member, with_node, without_node, updated}
+use Rattle.session_core.specs.Graph.{graph_after}
 
 -- a message is for this space
 abbrev pub is_for : Space → Heads → Bool
@@ -24,7 +27,11 @@ is_for space heads = bytes_eq heads.space_id space.name
 -- the node of a request may not have it done: it isn't joined, and does not join
 abbrev pub is_stranger : Space → Heads → Ask → Bool
 is_stranger space heads Join = false
-is_stranger space heads ask = not (is_member space heads.node_id)
+is_stranger space heads Leave = not (is_member space heads.node_id)
+is_stranger space heads (Update remove insert confirm) = not (is_member space heads.node_id)
+is_stranger space heads (Query wish) = not (is_member space heads.node_id)
+is_stranger space heads (Subscribe wish) = not (is_member space heads.node_id)
+is_stranger space heads (Unsubscribe text) = not (is_member space heads.node_id)
 
 -- no patterns
 abbrev pub is_none_of : List Pattern → Bool
@@ -35,7 +42,12 @@ is_none_of (pattern ∷ patterns) = false
 abbrev pub is_removal : Transaction → List Pattern → Bool
 is_removal transaction.TheVariants.Update insert = true
 is_removal transaction.TheVariants.Remove insert = is_none_of insert
-is_removal kind insert = false
+is_removal transaction.TheVariants.Join insert = false
+is_removal transaction.TheVariants.Leave insert = false
+is_removal transaction.TheVariants.Insert insert = false
+is_removal transaction.TheVariants.Query insert = false
+is_removal transaction.TheVariants.Subscribe insert = false
+is_removal transaction.TheVariants.Unsubscribe insert = false
 
 -- what is asked for is built: to join, to leave and to insert
 abbrev pub is_built : Transaction → Ask → Bool
@@ -52,62 +64,148 @@ is_no_triple pattern = is_none (triple_of pattern)
 
 -- what is asked for can't be done for what it says: something to insert is no triple
 abbrev pub is_unfit : Ask → Bool
+is_unfit Join = false
+is_unfit Leave = false
 is_unfit (Update remove insert confirm) = list_any is_no_triple insert
-is_unfit ask = false
+is_unfit (Query wish) = false
+is_unfit (Subscribe wish) = false
+is_unfit (Unsubscribe text) = false
 
--- the triples of patterns
-abbrev pub triples_of : List Pattern → List Triple
-triples_of patterns = filter_map triple_of patterns
-
--- the graph after the triples of patterns were inserted
-abbrev pub graph_with : Space → List Pattern → List Triple
-graph_with space insert = with_triples space.graph (triples_of insert)
-
--- what is asked for would pass a limit: of 4,096 joined nodes, or of 262,144 triples
+-- what is asked for would pass a limit: of 4,096 joined nodes, or of 262,144 triples after the update
 abbrev pub is_over : Space → Heads → Ask → Bool
 is_over space heads Join = not (is_member space heads.node_id) && nat_le 4096 (length space.joined)
-is_over space heads (Update remove insert confirm) = nat_lt 262144 (length (graph_with space insert))
-is_over space heads ask = false
+is_over space heads Leave = false
+is_over space heads (Update remove insert confirm) = nat_lt 262144 (length (graph_after space.graph remove insert))
+is_over space heads (Query wish) = false
+is_over space heads (Subscribe wish) = false
+is_over space heads (Unsubscribe text) = false
 
--- the status of a request: of the first rank that applies, or success
+-- a rank: the status with which it refuses a request to a space, if it does
+abbrev pub Rank : Type 0
+Rank = Space → Request → Option Status
+
+-- this status, where the test is true
+abbrev pub refuse : Bool → Status → Option Status
+refuse refuses status = if refuses then Some status else None
+
+-- the request is for another space
+abbrev pub elsewhere : Rank
+elsewhere space request = refuse (not (is_for space request.heads)) BadRequest
+
+-- it comes from a stranger
+abbrev pub denied : Rank
+denied space request = refuse (is_stranger space request.heads request.ask) AccessDenied
+
+-- it asks for what isn't built
+abbrev pub unbuilt : Rank
+unbuilt space request = refuse (not (is_built request.heads.transaction request.ask)) NotImplemented
+
+-- it says what can't be done
+abbrev pub unfit : Rank
+unfit space request = refuse (is_unfit request.ask) BadRequest
+
+-- it would pass a limit
+abbrev pub over : Rank
+over space request = refuse (is_over space request.heads request.ask) OutOfResources
+
+-- the ranks before the limits, in the order in which they decide
+abbrev pub early_ranks : List Rank
+early_ranks = elsewhere ∷ denied ∷ unbuilt ∷ unfit ∷ []
+
+-- all ranks, in the order in which they decide
+abbrev pub ranks : List Rank
+ranks = early_ranks ++ over ∷ []
+
+-- the status of the first rank that refuses a request
+abbrev pub first_of : List Rank → Space → Request → Option Status
+first_of [] space request = None
+first_of (rank ∷ others) space request = option_or (rank space request) (first_of others space request)
+
+-- the status of a request: of the first rank that refuses it, or success
 abbrev pub verdict : Space → Request → Status
-verdict space request =
-    if not (is_for space request.heads) then BadRequest
-    else if is_stranger space request.heads request.ask then AccessDenied
-    else if not (is_built request.heads.transaction request.ask) then NotImplemented
-    else if is_unfit request.ask then BadRequest
-    else if is_over space request.heads request.ask then OutOfResources
-    else Success
+verdict space request = unwrap_or (first_of ranks space request) Success
 
 -- a status is that of success
 abbrev pub is_success : Status → Bool
 is_success Success = true
-is_success status = false
+is_success AccessDenied = false
+is_success OutOfResources = false
+is_success NotImplemented = false
+is_success BadRequest = false
+is_success Incomplete = false
+is_success Syntax = false
 
--- the space after a request that was granted: its node is joined, or has left, or its triples are in the graph
+-- the space after a request that was granted: its node is joined, or has left, or its update was made
 abbrev pub granted : Space → Heads → Ask → Space
 granted space heads Join = with_node space heads.node_id
 granted space heads Leave = without_node space heads.node_id
-granted space heads (Update remove insert confirm) = updated space (graph_with space insert)
-granted space heads ask = space
+granted space heads (Update remove insert confirm) = updated space (graph_after space.graph remove insert)
+granted space heads (Query wish) = space
+granted space heads (Subscribe wish) = space
+granted space heads (Unsubscribe text) = space
 
--- the space after a request, before anything is sent: what is refused changes nothing
+-- the space after a request with this status, before anything is sent: what is refused changes nothing
+abbrev pub done_with : Space → Request → Status → Space
+done_with space request status = if is_success status then granted space request.heads request.ask else space
+
+-- the space after a request, before anything is sent
 abbrev pub done : Space → Request → Space
-done space request = if is_success (verdict space request) then granted space request.heads request.ask else space
+done space request = done_with space request (verdict space request)
 
 -- the request wants no confirm of success
 abbrev pub is_silent : Ask → Bool
+is_silent Join = false
+is_silent Leave = false
 is_silent (Update remove insert confirm) = not confirm
-is_silent ask = false
+is_silent (Query wish) = false
+is_silent (Subscribe wish) = false
+is_silent (Unsubscribe text) = false
 
--- the confirm of a message with this status, as it is sent
+-- the number of the subscription that a request makes where it is granted: no request makes one yet
+abbrev pub subscription_for : Space → Ask → Option ℕ
+subscription_for space Join = None
+subscription_for space Leave = None
+subscription_for space (Update remove insert confirm) = None
+subscription_for space (Query wish) = None
+subscription_for space (Subscribe wish) = None
+subscription_for space (Unsubscribe text) = None
+
+-- the answer that a request gets where it is granted: no request is answered yet
+abbrev pub answer_for : Space → Ask → Option Answer
+answer_for space Join = None
+answer_for space Leave = None
+answer_for space (Update remove insert confirm) = None
+answer_for space (Query wish) = None
+answer_for space (Subscribe wish) = None
+answer_for space (Unsubscribe text) = None
+
+-- a confirm as it is sent
+abbrev pub confirm_bytes : Confirm → List ℕ
+confirm_bytes confirm = canonical (confirm_of confirm)
+
+-- the confirm that tells this status alone
+abbrev pub bare : Heads → Status → Confirm
+bare heads status = record { heads = heads; status = status; subscription = None; answer = None }
+
+-- the confirm of success, with what the request gets
+abbrev pub granting : Space → Heads → Ask → Confirm
+granting space heads ask = record { heads = heads; status = Success; subscription = subscription_for space ask; answer = answer_for space ask }
+
+-- the confirm that tells this status alone, as it is sent
 abbrev pub confirm : Heads → Status → List ℕ
-confirm heads status = canonical (confirm_of (record { heads = heads; status = status; subscription = None; answer = None }))
+confirm heads status = confirm_bytes (bare heads status)
 
--- the confirm of a request, if one is sent: it is left out only at success
+-- the confirm of success, as it is sent, where it is wanted
+abbrev pub success_due : Space → Heads → Ask → Option (List ℕ)
+success_due space heads ask = if is_silent ask then None else Some (confirm_bytes (granting space heads ask))
+
+-- the confirm of a request with this status, if one is sent: it is left out only at success
+abbrev pub due_with : Space → Request → Status → Option (List ℕ)
+due_with space request status = if is_success status then success_due space request.heads request.ask else Some (confirm request.heads status)
+
+-- the confirm of a request, if one is sent
 abbrev pub confirm_due : Space → Request → Option (List ℕ)
-confirm_due space request =
-    if is_silent request.ask && is_success (verdict space request) then None else Some (confirm request.heads (verdict space request))
+confirm_due space request = due_with space request (verdict space request)
 
 -- the status of a message that is wrong by itself, unless it is for another space
 abbrev pub wrong_status : Space → Heads → Status → Status

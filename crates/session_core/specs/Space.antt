@@ -1,8 +1,8 @@
 -- A space: who joined, the links, and the facts that are shared.
-use Rattle.std.specs.Prelude.{ℕ, ◌+◌, Bool, not, List, [], ◌∷◌, filter}
+use Rattle.std.specs.Prelude.{ℕ, ◌+◌, Bool, not, List, [], filter}
 use Rattle.std.specs.List.{list_any}
 use Rattle.std.specs.Str.{bytes_eq}
-use Rattle.m3_terms.specs.Order.{text_cmp, triple_cmp}
+use Rattle.m3_terms.specs.Order.{text_cmp}
 use Rattle.m3_terms.specs.Inserted.{inserted}
 use Rattle.m3_terms.specs.declared.triple.Triple.{Triple}
 use Rattle.link_table.specs.Links.{Link}
@@ -31,11 +31,6 @@ with_node space node = record space { joined = inserted text_cmp node space.join
 -- the space after a node left
 abbrev pub without_node : Space → List ℕ → Space
 without_node space node = record space { joined = filter (λ other. not (bytes_eq other node)) space.joined }
-
--- a graph with these triples too
-abbrev pub with_triples : List Triple → List Triple → List Triple
-with_triples graph [] = graph
-with_triples graph (triple ∷ triples) = with_triples (inserted triple_cmp triple graph) triples
 
 -- the space after an accepted update whose graph is this
 abbrev pub updated : Space → List Triple → Space

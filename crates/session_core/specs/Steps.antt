@@ -18,7 +18,7 @@ pub record Step : Type 0 where
   pub space : Space
   pub reply : Reply
 
--- the space with other links
+-- the space with other links: the one way in which a step changes them
 abbrev pub with_links : Space → List Link → Space
 with_links space links = record space { links = links }
 
@@ -53,12 +53,18 @@ on_open Gone old new = unchanged old Closed
 -- a call that is for any link that was opened
 abbrev pub on_opened : LinkState → Space → Space → Step
 on_opened Never old new = unchanged old NoLink
-on_opened state old new = told old new
+on_opened Open old new = told old new
+on_opened Ended old new = told old new
+on_opened Overrun old new = told old new
+on_opened Gone old new = told old new
 
 -- what is answered where no message waits on a link
 abbrev pub idle : LinkState → Reply
+idle Never = Over
 idle Open = Empty
-idle state = Over
+idle Ended = Over
+idle Overrun = Over
+idle Gone = Over
 
 -- the oldest of the messages of a link is taken
 abbrev pub taken_from : Space → ℕ → LinkState → List (List ℕ) → Step

@@ -3,7 +3,7 @@ ghost use Rattle.std.specs.Prelude.{◌≡◌, ◌+◌, ◌≤◌, ◌<◌, ◌�
 ghost use Rattle.std.specs.List.Sorted.{IsStrictlySortedBy};
 ghost use Rattle.m3_terms.specs.Inserted.{inserted};
 ghost use Rattle.m3_terms.specs.Order.{triple_cmp};
-ghost use Rattle.session_core.specs.Space.{with_triples};
+ghost use Rattle.session_core.specs.Graph.{with_triples};
 ghost use Rattle.session_core.specs.Fresh.{lacks as lacks_it, IsFresh};
 
 use m3_terms::{NoMemory, Triple};

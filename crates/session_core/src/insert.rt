@@ -1,11 +1,11 @@
 //! How triples are inserted.
 ghost use Rattle.std.specs.Prelude.{◌≡◌, ◌+◌, ◌<◌, ◌^◌, ◌↔◌, [], IsTrue, IfOk, OnOk, OnErr, length};
 ghost use Rattle.ssap_shape.specs.declared.request.Ask.TheVariants as asks;
-ghost use Rattle.session_core.specs.Space.{updated, with_triples};
-ghost use Rattle.session_core.specs.Requests.{triples_of as triples_in};
+ghost use Rattle.session_core.specs.Space.{updated};
+ghost use Rattle.session_core.specs.Graph.{with_triples, triples_of as triples_in};
 ghost use Rattle.session_core.specs.Ranks.{passed};
 
-use crate::confirm::confirm_message;
+use crate::confirm::{bare, confirm_message};
 use crate::space::TRIPLE_LIMIT;
 use crate::store::Store;
 use m3_terms::{NoMemory, Patterns, Triple};
@@ -55,7 +55,7 @@ impl Store {
         if self.is_full(&fresh) {
             self.answer(alloc, link, heads, Status::OutOfResources)
         } else if confirm {
-            let message = confirm_message(alloc, heads, Status::Success)?;
+            let message = confirm_message(alloc, &bare(heads, Status::Success))?;
             self.add(fresh)?;
             self.send(link, message);
             Ok(())

@@ -5,7 +5,7 @@ ghost use Rattle.session_core.specs.Space.{with_node};
 ghost use Rattle.session_core.specs.Requests.{is_over};
 ghost use Rattle.session_core.specs.Ranks.{passed};
 
-use crate::confirm::confirm_message;
+use crate::confirm::{bare, confirm_message};
 use crate::space::NODE_LIMIT;
 use crate::store::Store;
 use m3_terms::{NoMemory, Text};
@@ -36,9 +36,10 @@ impl Store {
         if self.is_crowded(&heads) {
             return self.answer(alloc, link, heads, Status::OutOfResources);
         }
-        let node = heads.node_id.copy()?;
-        let message = confirm_message(alloc, heads, Status::Success)?;
-        self.admit(node)?;
+        let confirm = bare(heads, Status::Success);
+        let message = confirm_message(alloc, &confirm)?;
+        let heads = confirm.heads;
+        self.admit(heads.node_id)?;
         self.send(link, message);
         Ok(())
     }

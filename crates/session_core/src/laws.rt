@@ -1,14 +1,22 @@
-//! Laws of runs. Each function does nothing: its contract is the law.
+//! Laws of graphs and of runs. Each function does nothing: its contract is the law.
 
-ghost use Rattle.session_core.specs.Laws.{NodesInOrder, TriplesInOrder, UpdatesCounted, GraphOfUpdates, SentTakenWaiting};
+ghost use Rattle.session_core.specs.Laws.{UpdatesAreExact, UpdatesKeepOrder, NameStays, NodesInOrder, TriplesInOrder, UpdatesCounted, GraphOfUpdates, SentTakenWaiting, TakenOfSent};
 
-/// The nodes and the triples of a run are in order, each once.
+/// After an update a graph has the triples that were inserted, and those that it had and that fit no removed pattern, in
+/// order and each once.
+pub fn updates_remove_first()
+    ensures exact { UpdatesAreExact }
+    ensures order { UpdatesKeepOrder }
+{}
+
+/// The name of a space stays in a run, and its nodes and triples are in order, each once.
 pub fn runs_stay_in_order()
+    ensures name { NameStays }
     ensures nodes { NodesInOrder }
     ensures triples { TriplesInOrder }
 {}
 
-/// A run counts its accepted updates, and its graph has the triples of those alone.
+/// A run counts its accepted updates, and its graph is what these make of none, one after another.
 pub fn updates_make_the_graph()
     ensures counted { UpdatesCounted }
     ensures graph { GraphOfUpdates }
@@ -17,4 +25,9 @@ pub fn updates_make_the_graph()
 /// What was sent on a link that no call loses was taken from it in the same order, and the rest waits.
 pub fn messages_stay_in_order()
     ensures { SentTakenWaiting }
+{}
+
+/// On every link, lost or not, what was taken is a prefix of what was sent.
+pub fn taken_is_a_prefix_of_sent()
+    ensures { TakenOfSent }
 {}

@@ -4,7 +4,7 @@ ghost use Rattle.ssap_shape.specs.declared.request.Ask.TheVariants as asks;
 ghost use Rattle.session_core.specs.Space.{without_node};
 ghost use Rattle.session_core.specs.Ranks.{passed};
 
-use crate::confirm::confirm_message;
+use crate::confirm::{bare, confirm_message};
 use crate::store::Store;
 use m3_terms::{NoMemory, Text};
 use ssap_items::Heads;
@@ -23,9 +23,9 @@ impl Store {
         ensures space { OnOk result (self.new ≡ passed self.old link heads asks.Leave) }
         ensures err { OnErr result (self.new ≡ self.old) }
     {
-        let node = heads.node_id.copy()?;
-        let message = confirm_message(alloc, heads, Status::Success)?;
-        self.dismiss(&node);
+        let confirm = bare(heads, Status::Success);
+        let message = confirm_message(alloc, &confirm)?;
+        self.dismiss(&confirm.heads.node_id);
         self.send(link, message);
         Ok(())
     }

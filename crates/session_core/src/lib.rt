@@ -14,12 +14,10 @@ mod space;
 mod store;
 
 pub use call::{Call, Reply};
-pub use laws::{messages_stay_in_order, runs_stay_in_order, updates_make_the_graph};
+pub use laws::{
+    messages_stay_in_order, runs_stay_in_order, taken_is_a_prefix_of_sent, updates_make_the_graph,
+    updates_remove_first,
+};
 pub use link_table::LinkState;
 pub use ring::Ring;
 pub use space::{Core, NODE_LIMIT, TRIPLE_LIMIT};
-
-#[cfg(test)]
-mod tests;
-#[cfg(test)]
-mod vectors;

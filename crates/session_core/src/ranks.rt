@@ -3,9 +3,9 @@ ghost use Rattle.std.specs.Prelude.{◌≡◌, ◌<◌, ◌^◌, None, OnOk, OnE
 ghost use Rattle.std.specs.List.{list_any};
 ghost use Rattle.ssap_shape.specs.declared.request.Arrived.TheVariants as arrived;
 ghost use Rattle.session_core.specs.Space.{is_member};
-ghost use Rattle.session_core.specs.Requests.{is_for as is_for_it, is_stranger as stranger, is_removal as removal, is_built as built, is_no_triple as no_triple, is_unfit as unfit, wrong_status as wrong};
+ghost use Rattle.session_core.specs.Requests.{is_for as is_for_it, is_stranger as stranger, is_removal as removal, is_built as built, is_no_triple as no_triple, is_unfit as unfit, wrong_status as wrong, first_of, early_ranks};
 ghost use Rattle.session_core.specs.Steps.{delivered};
-ghost use Rattle.session_core.specs.Ranks.{refusal as refusal_of, passed};
+ghost use Rattle.session_core.specs.Ranks.{asking, passed};
 
 use crate::store::Store;
 use m3_terms::{NoMemory, Pattern, Patterns, Slot, Term, Text};
@@ -105,16 +105,17 @@ impl Store {
         }
     }
 
-    fn refusal(&self, heads: &Heads, ask: &Ask) -> Option<Status>
-        ensures { result ≡ refusal_of self.now heads.now ask.now }
+    // The status of the first rank that refuses a request before its limits are looked at.
+    fn refusal(&self, request: &Request) -> Option<Status>
+        ensures { result ≡ first_of early_ranks self.now request.now }
     {
-        if !self.is_for(heads) {
+        if !self.is_for(&request.heads) {
             Some(Status::Request)
-        } else if self.is_stranger(heads, ask) {
+        } else if self.is_stranger(&request.heads, &request.ask) {
             Some(Status::AccessDenied)
-        } else if !is_built(heads.transaction, ask) {
+        } else if !is_built(request.heads.transaction, &request.ask) {
             Some(Status::NotImplemented)
-        } else if is_unfit(ask) {
+        } else if is_unfit(&request.ask) {
             Some(Status::Request)
         } else {
             None
@@ -127,15 +128,15 @@ impl Store {
         ensures space { OnOk result (self.new ≡ delivered self.old link (arrived.Request request)) }
         ensures err { OnErr result (self.new ≡ self.old) }
     {
-        let Request { heads, ask } = request;
-        match self.refusal(&heads, &ask) {
-            Some(status) => self.answer(alloc, link, heads, status),
-            None => self.pass(alloc, link, heads, ask),
+        match self.refusal(&request) {
+            Some(status) => self.answer(alloc, link, request.heads, status),
+            None => self.pass(alloc, link, request.heads, request.ask),
         }
     }
 
+    // Does a request that only its limits may refuse.
     fn pass(&mut self, alloc: Global, link: u32, heads: Heads, ask: Ask) -> Result<(), NoMemory>
-        requires passes { refusal_of self.old heads ask ≡ None }
+        requires passes { first_of early_ranks self.old (asking heads ask) ≡ None }
         requires few { self.old.updates < 2 ^ 62 }
         ensures space { OnOk result (self.new ≡ passed self.old link heads ask) }
         ensures err { OnErr result (self.new ≡ self.old) }

@@ -1,7 +1,9 @@
-ghost use Rattle.std.specs.Prelude.{◌≡◌, ◌<◌, ◌^◌, ◌↔◌, IsTrue, IsOk, length, IfOk, OnOk, OnErr, Contains};
+ghost use Rattle.std.specs.Prelude.{◌≡◌, ◌+◌, ◌<◌, ◌≤◌, ◌^◌, ◌↔◌, [], IsTrue, IsOk, length, IfOk, OnOk, OnErr, Contains};
 ghost use Rattle.link_table.specs.Links.{state_of, pending_of};
 ghost use Rattle.session_core.specs.Space.{empty_space};
 ghost use Rattle.session_core.specs.Steps.{step, advanced, live_subscriptions, IsLean};
+ghost use Rattle.session_core.specs.Reads.{cost as rows_of};
+ghost use Rattle.session_core.specs.Runs.{StandsFor, StandsOn};
 
 use crate::store::Store;
 use crate::{Call, Reply};
@@ -41,6 +43,7 @@ impl Core {
     pub fn new(alloc: Global, space: Text) -> Core
         ensures space { result.space ≡ empty_space space }
         ensures count { result.count ≡ 0 }
+        ensures stands { StandsFor space [] result }
     {
         Core {
             store: Store::new(alloc, space),
@@ -49,6 +52,7 @@ impl Core {
     }
 
     /// Does a call and answers it. Whatever takes memory comes before the first change, so an `Err` leaves all as it was.
+    /// It counts the rows of the graph that it reads.
     pub fn step<R: Threads + Sync, L: Ledger>(
         &mut self,
         alloc: Global,
@@ -60,8 +64,9 @@ impl Core {
         ensures reply { IfOk result (λ reply. reply ≡ (step self.old.space call).reply) }
         ensures space { OnOk result (self.new ≡ advanced self.old call) }
         ensures err { OnErr result (self.new ≡ self.old) }
+        ensures stands { StandsOn self.old call result self.new }
         ensures lean { IsLean call → IsOk result }
-        ensures cost { steps.new ≡ steps.old }
+        ensures cost { steps.new ≤ steps.old + rows_of self.old.space call }
     {
         let reply = self.store.call(alloc, call)?;
         self.count += 1;

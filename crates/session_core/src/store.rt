@@ -9,7 +9,7 @@ ghost use Rattle.session_core.specs.Ranks.{is_rung_since, ring_of};
 ghost use Rattle.session_core.specs.declared.call.Call.TheVariants as calls;
 ghost use Rattle.session_core.specs.declared.call.Reply.TheVariants as replies;
 
-use crate::confirm::confirm_message;
+use crate::confirm::{bare, confirm_message};
 use crate::graph::Graph;
 use crate::{Call, Reply, Ring};
 use link_table::{LinkState, Links, Message};
@@ -153,7 +153,7 @@ impl Store {
         ensures space { OnOk result (self.new ≡ queue self.old link (Some (confirm heads status))) }
         ensures err { OnErr result (self.new ≡ self.old) }
     {
-        let message = confirm_message(alloc, heads, status)?;
+        let message = confirm_message(alloc, &bare(heads, status))?;
         self.send(link, message);
         Ok(())
     }

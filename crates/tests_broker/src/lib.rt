@@ -1,2 +1,7 @@
 //! Tests of the space and of the commands.
 #![tactic(auto)]
+
+#[cfg(test)]
+mod space;
+#[cfg(test)]
+mod vectors;

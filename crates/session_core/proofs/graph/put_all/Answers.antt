@@ -5,7 +5,7 @@ use Rattle.std.specs.Vec.Iter.{into_iter_items}
 use Rattle.m3_terms.specs.InsertedLaws.{inserted_sorted}
 use Rattle.m3_terms.specs.Order.{triple_cmp}
 use Rattle.m3_terms.specs.OrderLaws.{triple_cmp_total}
-use Rattle.session_core.specs.Space.{with_triples}
+use Rattle.session_core.specs.Graph.{with_triples}
 use Rattle.session_core.proofs.Graphs.{triple_one, with_next}
 use Rattle.session_core.proofs.graph.put_all.Goals as goal
 

@@ -2,7 +2,7 @@ use Rattle.std.proofs.Common.{◌≡◌, ◌+◌, ◌≤◌, vec_len, vec_capaci
 use Rattle.std.specs.List.Sorted.{IsStrictlySortedBy}
 use Rattle.std.specs.Vec.Iter.{into_iter_items, into_iter_len}
 use Rattle.m3_terms.specs.Order.{triple_cmp}
-use Rattle.session_core.specs.Space.{with_triples}
+use Rattle.session_core.specs.Graph.{with_triples}
 use Rattle.session_core.proofs.graph.put_all.Given as goal
 
 abbrev pub invariant-loop-triple : goal.invariant-loop-triple

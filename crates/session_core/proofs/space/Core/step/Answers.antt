@@ -1,5 +1,8 @@
-use Rattle.std.proofs.Common.{ap, arith}
+use Rattle.std.proofs.Common.{◌+◌, ap, ◌∙◌, arith, Ok}
+use Rattle.session_core.specs.Space.{State}
+use Rattle.session_core.specs.Steps.{step, advanced}
 use Rattle.session_core.proofs.Growing.{at_most_one_more}
+use Rattle.session_core.proofs.Standing.{stands_on}
 use Rattle.session_core.proofs.space.Core.step.Goals as goal
 
 pub invariant_of-self-2 : goal.invariant_of-self-2
@@ -7,3 +10,10 @@ invariant_of-self-2 g c =
     let same = ap (λ s. s.updates) c.in_ok-reply.ensures.space in
     let few = at_most_one_more c.self.inside.store c.args.call in
     omega arith
+
+pub returns-clause-stands : goal.returns-clause-stands
+returns-clause-stands g c =
+    stands_on c.args.self.now c.args.call (Ok c.in_ok-reply.reply) _
+    (c.in_ok-reply.ensures.reply ∙ ap (λ (state : State). (step state.space c.args.call).reply) c.self.view_is)
+    (ap (λ space. record { space = space; count = c.self.inside.count + 1 }) c.in_ok-reply.ensures.space ∙ ap (λ state. advanced state c.args.call) c.self.view_is)
+    tt

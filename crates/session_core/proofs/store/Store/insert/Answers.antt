@@ -2,9 +2,10 @@ use Rattle.std.proofs.Common.{◌≡◌, ◌+◌, ◌∙◌, length, ap, sym, su
 use Rattle.std.specs.List.Sorted.{IsStrictlySortedBy}
 use Rattle.m3_terms.specs.Order.{triple_cmp}
 use Rattle.ssap_shape.specs.declared.status.Status.TheVariants.{Success}
-use Rattle.session_core.specs.Space.{updated, with_triples}
+use Rattle.session_core.specs.Space.{updated}
+use Rattle.session_core.specs.Graph.{with_triples}
 use Rattle.session_core.specs.Fresh.{IsFresh}
-use Rattle.session_core.specs.Requests.{confirm}
+use Rattle.session_core.specs.Requests.{confirm, confirm_bytes}
 use Rattle.session_core.specs.Steps.{queue}
 use Rattle.session_core.proofs.Passed.{insert_over, insert_done, not_full}
 use Rattle.session_core.proofs.store.Store.insert.Goals as goal
@@ -27,7 +28,7 @@ returns-in_ok-add-clause-space c =
     let done = insert_done c.args.self.now c.args.link c.args.heads c.args.insert c.args.confirm c.fresh-fresh.result.items s f few in
     let new = updated c.args.self.now (with_triples c.args.self.now.graph c.fresh-fresh.result.items) in
     c.send.ensures ∙ ap (λ space. queue space c.args.link (Some c.in_ok-message.message)) c.in_ok-add.ensures.space
-    ∙ ap (λ message. queue new c.args.link (Some message)) c.in_ok-message.ensures
+    ∙ ap (λ message. queue new c.args.link (Some message)) (c.in_ok-message.ensures ∙ ap confirm_bytes c.bare.ensures)
     ∙ ap (λ wanted. queue new c.args.link (if not wanted then None else Some (confirm c.args.heads Success))) (sym c.if-confirm.true)
     ∙ sym done
 

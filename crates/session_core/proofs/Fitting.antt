@@ -1,0 +1,80 @@
+-- The test of whether a triple fits a pattern, and what an update leaves.
+use Rattle.std.proofs.Common.{◌≡◌, ◌<◌, Bool, true, false, ◌&&◌, ◌||◌, List, [], ◌∷◌, Contains, refl, sym, subst, inl, inr, arith}
+use Rattle.std.specs.Bool.{Decides}
+use Rattle.std.specs.Cmp.{first_so, second_so}
+use mathlib.Core.Bool.{true≢false}
+use mathlib.Core.Logic.{⊎_elim}
+use Rattle.m3_terms.specs.InsertedLaws.{cons_cases, head_in, tail_in}
+use Rattle.m3_terms.specs.OrderLaws.{term_exact, triple_cmp_total}
+use Rattle.m3_terms.specs.Pattern.{Admits, Fits}
+use Rattle.m3_terms.specs.declared.term.Term.{Term}
+use Rattle.m3_terms.specs.declared.pattern.Slot.{Slot}
+use Rattle.m3_terms.specs.declared.pattern.Slot.TheVariants.{Any, Is}
+use Rattle.m3_terms.specs.declared.pattern.Pattern.{Pattern}
+use Rattle.m3_terms.specs.declared.triple.Triple.{Triple}
+use Rattle.session_core.specs.Graph.{admits, fits, fits_any, triples_of}
+use Rattle.session_core.specs.Laws.{UpdatesAreExact, UpdatesKeepOrder}
+use Rattle.session_core.proofs.Graphs.{triple_one, update_ordered}
+use Rattle.session_core.proofs.Updates.{after_has}
+
+admits_decides : (slot : Slot) (term : Term) → Decides (admits slot term) (Admits slot term)
+admits_decides Any term = (λ h. tt, λ a. refl)
+admits_decides (Is wanted) term = term_exact wanted term
+
+both : (a b : Bool) → a ≡ true → b ≡ true → (a && b) ≡ true
+both true b h k = k
+both false b h k = h
+
+-- the test says whether the triple fits
+pub fits_decides : (pattern : Pattern) (triple : Triple) → Decides (fits pattern triple) (Fits pattern triple)
+fits_decides pattern triple =
+    let s = admits pattern.subject triple.subject in
+    let p = admits pattern.predicate triple.predicate in
+    let o = admits pattern.object triple.object in (
+      λ h. record {
+        subject = (admits_decides pattern.subject triple.subject).0 (first_so s (p && o) h);
+        predicate = (admits_decides pattern.predicate triple.predicate).0 (first_so p o (second_so s (p && o) h));
+        object = (admits_decides pattern.object triple.object).0 (second_so p o (second_so s (p && o) h));
+      },
+      λ (f : Fits pattern triple). both s (p && o) ((admits_decides pattern.subject triple.subject).1 f.subject)
+          (both p o ((admits_decides pattern.predicate triple.predicate).1 f.predicate) ((admits_decides pattern.object triple.object).1 f.object)),
+    )
+
+-- a triple fits none of some patterns
+abbrev FitsNone : List Pattern → Triple → Type 0
+FitsNone patterns triple = (pattern : Pattern) → Contains patterns pattern → Fits pattern triple → ⊥
+
+neither : (a b : Bool) → (a ≡ true → ⊥) → b ≡ false → (a || b) ≡ false
+neither true b h k = absurd (h refl)
+neither false b h k = k
+
+neither_first : (a b : Bool) → (a || b) ≡ false → a ≡ true → ⊥
+neither_first true b h e = true≢false h
+neither_first false b h e = true≢false (sym e)
+
+neither_second : (a b : Bool) → (a || b) ≡ false → b ≡ false
+neither_second true b h = absurd (true≢false h)
+neither_second false b h = h
+
+none_fits : (patterns : List Pattern) (triple : Triple) → FitsNone patterns triple → fits_any patterns triple ≡ false
+none_fits [] triple n = refl
+none_fits (pattern ∷ patterns) triple n =
+    neither (fits pattern triple) (fits_any patterns triple) (λ h. n pattern (head_in pattern patterns) ((fits_decides pattern triple).0 h))
+    (none_fits patterns triple (λ other c. n other (tail_in pattern patterns other c)))
+
+none_fits_of : (patterns : List Pattern) (triple : Triple) → fits_any patterns triple ≡ false → FitsNone patterns triple
+none_fits_of [] triple h pattern c f = let below : c.0 < 0 = c.1 in absurd (omega arith)
+none_fits_of (first ∷ patterns) triple h pattern c f = ⊎_elim
+    (λ e. neither_first (fits first triple) (fits_any patterns triple) h ((fits_decides first triple).1 (subst (λ p. Fits p triple) (sym e) f)))
+    (λ later. none_fits_of patterns triple (neither_second (fits first triple) (fits_any patterns triple) h) pattern later f)
+    (cons_cases first patterns pattern c)
+
+pub updates_are_exact : UpdatesAreExact
+updates_are_exact graph remove insert triple =
+    let has = after_has triple_cmp_total triple_one (fits_any remove) graph (triples_of insert) triple in (
+      λ c. ⊎_elim inl (λ (kept : Contains graph triple × (fits_any remove triple ≡ false)). inr (kept.0, none_fits_of remove triple kept.1)) (has.0 c),
+      λ s. has.1 (⊎_elim inl (λ (kept : Contains graph triple × FitsNone remove triple). inr (kept.0, none_fits remove triple kept.1)) s),
+    )
+
+pub updates_keep_order : UpdatesKeepOrder
+updates_keep_order = update_ordered

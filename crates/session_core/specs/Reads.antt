@@ -1,0 +1,47 @@
+-- How many rows of the graph a call may read.
+use Rattle.std.specs.Prelude.{ℕ, ◌+◌, List, [], ◌∷◌}
+use Rattle.m3_terms.specs.declared.triple.Triple.{Triple}
+use Rattle.ssap_shape.specs.declared.request.Wish.{Wish}
+use Rattle.ssap_shape.specs.declared.request.Wish.TheVariants.{Templates, Sparql}
+use Rattle.ssap_shape.specs.declared.request.Ask.{Ask}
+use Rattle.ssap_shape.specs.declared.request.Ask.TheVariants.{Join, Leave, Update, Query, Subscribe, Unsubscribe}
+use Rattle.ssap_shape.specs.declared.request.Arrived.{Arrived}
+use Rattle.ssap_shape.specs.declared.request.Arrived.TheVariants.{Request, Wrong, NotRequest}
+use Rattle.session_core.specs.Space.{Space}
+use Rattle.session_core.specs.Graph.{rows_of}
+use Rattle.session_core.specs.Steps.{step}
+use Rattle.session_core.specs.declared.call.Call.{Call}
+use Rattle.session_core.specs.declared.call.Call.TheVariants.{NewLink, Deliver, End, Lost, Take}
+
+-- for a query: the triples that fit a template, counted for each template
+abbrev pub query_cost : List Triple → Wish → ℕ
+query_cost graph (Templates templates) = rows_of graph templates
+query_cost graph (Sparql text) = 0
+
+-- for what is asked for: an update may read the triples that fit a pattern that it removes, counted for each pattern
+abbrev pub ask_cost : List Triple → Ask → ℕ
+ask_cost graph Join = 0
+ask_cost graph Leave = 0
+ask_cost graph (Update remove insert confirm) = rows_of graph remove
+ask_cost graph (Query wish) = query_cost graph wish
+ask_cost graph (Subscribe wish) = 0
+ask_cost graph (Unsubscribe text) = 0
+
+-- for what arrived: no row but for a request
+abbrev pub arrived_cost : List Triple → Arrived → ℕ
+arrived_cost graph (Request request) = ask_cost graph request.ask
+arrived_cost graph (Wrong heads status) = 0
+arrived_cost graph NotRequest = 0
+
+-- for a call: no row but for what is delivered
+abbrev pub cost : Space → Call → ℕ
+cost space NewLink = 0
+cost space (Deliver link arrived) = arrived_cost space.graph arrived
+cost space (End link) = 0
+cost space (Lost link) = 0
+cost space (Take link) = 0
+
+-- for calls, one after another
+abbrev pub costs : Space → List Call → ℕ
+costs space [] = 0
+costs space (call ∷ calls) = cost space call + costs (step space call).space calls

@@ -1,0 +1,309 @@
+//! A space X in calls: what they answer, what a node k is confirmed, and the limits of nodes and of triples.
+ghost use Rattle.std.specs.Prelude.{◌≡◌, ◌<◌};
+
+use m3_terms::{Bytes, Pattern, Patterns, Slot, Steps, Term, Text, Triple};
+use session_core::{
+    Call, Core, LinkState, NODE_LIMIT, Reply, TRIPLE_LIMIT, messages_stay_in_order,
+    runs_stay_in_order, taken_is_a_prefix_of_sent, updates_make_the_graph, updates_remove_first,
+};
+use ssap_items::{Heads, MessageType, Transaction};
+use ssap_shape::{Arrived, Ask, Request, Status, Wish};
+use std::alloc::Global;
+use std::marker::Brand;
+use std::sync::ledger::{Blank, Ledger};
+use std::test::Fail;
+use std::thread::Threads;
+
+const JOINED: &[u8] =
+    b"<SSAP_message><message_type>CONFIRM</message_type><transaction_type>JOIN</transaction_type><transaction_id>1</transaction_id><node_id>k</node_id><space_id>X</space_id><parameter name=\"status\">m3:Success</parameter></SSAP_message>";
+
+const INSERTED: &[u8] =
+    b"<transaction_type>INSERT</transaction_type><transaction_id>1</transaction_id><node_id>k</node_id><space_id>X</space_id><parameter name=\"status\">m3:Success</parameter></SSAP_message>";
+
+const LEFT: &[u8] =
+    b"<transaction_type>LEAVE</transaction_type><transaction_id>1</transaction_id><node_id>k</node_id><space_id>X</space_id><parameter name=\"status\">m3:Success</parameter></SSAP_message>";
+
+const SUCCESS: &[u8] = b"m3:Success</parameter></SSAP_message>";
+
+const DENIED: &[u8] = b"m3:SIB.Error.AccessDenied</parameter></SSAP_message>";
+
+const OVER: &[u8] = b"m3:SIB.Failure.OutOfResources</parameter></SSAP_message>";
+
+const UNBUILT: &[u8] = b"m3:SIB.Failure.NotImplemented</parameter></SSAP_message>";
+
+const WRONG: &[u8] = b"m3:KP.Error.Message.Syntax</parameter></SSAP_message>";
+
+// How many triples one request inserts on the way to the limit.
+const BATCH: u32 = 1024;
+
+fn request(
+    alloc: Global,
+    node: &[u8],
+    transaction: Transaction,
+    ask: Ask,
+) -> Result<Arrived, Fail> {
+    let transaction_id = Text::read(alloc, b"1")?;
+    let node_id = Text::read(alloc, node)?;
+    let space_id = Text::read(alloc, b"X")?;
+    let heads = Heads {
+        message: MessageType::Request,
+        transaction,
+        transaction_id,
+        node_id,
+        space_id,
+    };
+    Ok(Arrived::Request(Request { heads, ask }))
+}
+
+// The triple of a lamp that has this state.
+fn lamp(alloc: Global, state: &[u8]) -> Result<Pattern, Fail> {
+    let subject = Slot::Is(Term::uri(alloc, b"lamp")?);
+    let predicate = Slot::Is(Term::uri(alloc, b"state")?);
+    let object = Slot::Is(Term::literal(alloc, state)?);
+    Ok(Pattern {
+        subject,
+        predicate,
+        object,
+    })
+}
+
+fn insert(alloc: Global, insert: Patterns, confirm: bool) -> Result<Arrived, Fail> {
+    let ask = Ask::Update {
+        remove: Patterns::new(alloc),
+        insert,
+        confirm,
+    };
+    request(alloc, b"k", Transaction::Insert, ask)
+}
+
+fn insert_lamp(alloc: Global, confirm: bool) -> Result<Arrived, Fail> {
+    let mut patterns = Patterns::new(alloc);
+    patterns.push(lamp(alloc, b"on")?)?;
+    insert(alloc, patterns, confirm)
+}
+
+// A message that is wrong by itself.
+fn wrong(alloc: Global) -> Result<Arrived, Fail> {
+    match request(alloc, b"k", Transaction::Join, Ask::Join)? {
+        Arrived::Request(request) => Ok(Arrived::Wrong {
+            heads: request.heads,
+            status: Status::Syntax,
+        }),
+        other => Ok(other),
+    }
+}
+
+// What a letter stands for: the node joins, leaves, inserts with and without a confirm or queries; a wrong message; and
+// else no request.
+fn arrived(alloc: Global, letter: u8) -> Result<Arrived, Fail> {
+    match letter {
+        b'J' => request(alloc, b"k", Transaction::Join, Ask::Join),
+        b'L' => request(alloc, b"k", Transaction::Leave, Ask::Leave),
+        b'I' => insert_lamp(alloc, true),
+        b'i' => insert_lamp(alloc, false),
+        b'Q' => {
+            let ask = Ask::Query(Wish::Templates(Patterns::new(alloc)));
+            request(alloc, b"k", Transaction::Query, ask)
+        }
+        b'W' => wrong(alloc),
+        _ => Ok(Arrived::NotRequest),
+    }
+}
+
+// A call in two letters, of which the second is the link: its input ends, it is lost, a message is taken, or one came.
+fn call(alloc: Global, word: &[u8]) -> Result<Call, Fail> {
+    let (letter, link) = match word {
+        [letter, digit] => (*letter, u32::from(*digit & 15)),
+        _ => return Err("no call".into()),
+    };
+    match letter {
+        b'N' => Ok(Call::NewLink),
+        b'E' => Ok(Call::End(link)),
+        b'X' => Ok(Call::Lost(link)),
+        b'T' => Ok(Call::Take(link)),
+        _ => Ok(Call::Deliver(link, arrived(alloc, letter)?)),
+    }
+}
+
+fn tell(alloc: Global, reply: &Reply) -> Result<String, Fail> {
+    let told = match reply {
+        Reply::Opened(link) => format!(in alloc; "o{link}")?,
+        Reply::TooManyLinks { count } => format!(in alloc; "f{count}")?,
+        Reply::Done { ring } => match ring.get(0) {
+            Some(link) => format!(in alloc; "d{link}")?,
+            None => format!(in alloc; "d")?,
+        },
+        Reply::Closed => format!(in alloc; "c")?,
+        Reply::NoLink => format!(in alloc; "n")?,
+        Reply::Message(_) => format!(in alloc; "m")?,
+        Reply::Empty => format!(in alloc; "e")?,
+        Reply::Over => format!(in alloc; "v")?,
+    };
+    Ok(told)
+}
+
+/// A space after some calls, what they answered in letters, and the message that was taken last.
+#[derive(Drop)]
+struct Room<L: Ledger> {
+    core: Core,
+    steps: Steps<L>,
+    told: String,
+    message: Bytes,
+}
+
+impl<L: Ledger> Room<L> {
+    fn new(alloc: Global, blank: Blank) -> Result<Room<L>, Fail>
+        requires name { blank.name ≡ L.name }
+        requires parts { blank.parts ≡ L.parts }
+        requires some { 0 < L.parts }
+    {
+        Ok(Room {
+            core: Core::new(alloc, Text::read(alloc, b"X")?),
+            steps: Steps::new(blank),
+            told: String::new(alloc),
+            message: Bytes::new(alloc),
+        })
+    }
+
+    fn act<R: Threads + Sync>(&mut self, alloc: Global, rt: &R, call: Call) -> Result<(), Fail> {
+        if self.core.count() > 1_000_000 {
+            return Err("too many calls".into());
+        }
+        let reply = self.core.step(alloc, rt, call, &mut self.steps)?;
+        self.told.push_str(tell(alloc, &reply)?.as_str())?;
+        if let Reply::Message(taken) = reply {
+            self.message = taken;
+        }
+        Ok(())
+    }
+
+    // Calls of two letters each.
+    fn play<R: Threads + Sync>(&mut self, alloc: Global, rt: &R, script: &[u8]) -> Result<(), Fail> {
+        for word in script.chunks_exact(2) {
+            self.act(alloc, rt, call(alloc, word)?)?;
+        }
+        Ok(())
+    }
+
+    // What arrives on link 1, and the message that answers it.
+    fn ask<R: Threads + Sync>(
+        &mut self,
+        alloc: Global,
+        rt: &R,
+        arrived: Arrived,
+    ) -> Result<(), Fail> {
+        self.act(alloc, rt, Call::Deliver(1, arrived))?;
+        self.act(alloc, rt, Call::Take(1))
+    }
+
+    // So many nodes join.
+    fn join_many<R: Threads + Sync>(&mut self, alloc: Global, rt: &R, count: u32) -> Result<(), Fail> {
+        for number in 0..count {
+            let node = format!(in alloc; "{number}")?;
+            let join = request(alloc, node.as_bytes(), Transaction::Join, Ask::Join)?;
+            self.ask(alloc, rt, join)?;
+        }
+        Ok(())
+    }
+
+    // The lamp has so many states more, from this number on.
+    fn insert_many<R: Threads + Sync>(
+        &mut self,
+        alloc: Global,
+        rt: &R,
+        from: u32,
+        count: u32,
+    ) -> Result<(), Fail> {
+        let mut patterns = Patterns::new(alloc);
+        for number in 0..count {
+            let state = format!(in alloc; "{}", from.saturating_add(number))?;
+            patterns.push(lamp(alloc, state.as_bytes())?)?;
+        }
+        self.ask(alloc, rt, insert(alloc, patterns, true)?)
+    }
+}
+
+#[test]
+fn calls_are_answered(rt: HostRuntime) -> Result<(), Fail> {
+    let cases: [(&[u8], &str, &[u8], u64, u64); 11] = [
+        (b"N.J1T1", "o1d1m", JOINED, 0, 0),
+        (b"N.J1T1I1I1T1", "o1d1md1d1m", INSERTED, 2, 1),
+        (b"N.J1T1L1T1i1T1", "o1d1md1md1m", DENIED, 0, 0),
+        (b"N.J1L1T1T1", "o1d1d1mm", LEFT, 0, 0),
+        (b"N.J1T1i1T1", "o1d1mde", JOINED, 1, 1),
+        (b"N.Q1T1J1T1Q1T1", "o1d1md1md1m", UNBUILT, 0, 0),
+        (b"N.W1T1", "o1d1m", WRONG, 0, 0),
+        (b"N.N.J2T1T2I1T2T1", "o1o2d2emd1em", INSERTED, 1, 1),
+        (b"N.B1B1J1E1X1T1", "o1d1cccdv", b"", 0, 0),
+        (b"J1E1X1T1T0", "nnnnn", b"", 0, 0),
+        (b"N.J1J1X1T1X1J1", "o1d1d1d1vdc", b"", 0, 0),
+    ];
+    for (script, told, message, updates, triples) in &cases {
+        let mut room = Room::<Brand>::new(rt.alloc(), Blank::new(1))?;
+        room.play(rt.alloc(), &rt, script)?;
+        assert!(rt; room.told.as_str() == *told);
+        assert!(rt; room.message.as_slice().ends_with(message));
+        assert_eq!(rt; (room.core.updates(), room.core.triples()), (*updates, *triples));
+    }
+    Ok(())
+}
+
+fn lamp_is_on(alloc: Global) -> Result<Triple, Fail> {
+    Ok(lamp(alloc, b"on")?.into_triple().ok_or("no triple")?)
+}
+
+#[test]
+fn a_space_is_asked_without_a_call(rt: HostRuntime) -> Result<(), Fail> {
+    let lamp = lamp_is_on(rt.alloc())?;
+    let mut room = Room::<Brand>::new(rt.alloc(), Blank::new(1))?;
+    assert!(rt; !room.core.contains(&lamp));
+    room.play(rt.alloc(), &rt, b"N.J1I1")?;
+    assert!(rt; room.core.contains(&lamp));
+    assert!(rt; room.core.name().as_bytes() == b"X".as_slice());
+    assert_eq!(rt; (room.core.count(), room.core.subscriptions()), (3, 0));
+    assert_eq!(rt; room.core.waiting(1), 2);
+    assert_eq!(rt; room.core.link_state(1), LinkState::Open);
+    assert_eq!(rt; room.core.link_state(2), LinkState::Never);
+    Ok(())
+}
+
+#[test]
+fn no_node_joins_beside_4096(rt: HostRuntime) -> Result<(), Fail> {
+    let alloc = rt.alloc();
+    let mut room = Room::<Brand>::new(alloc, Blank::new(1))?;
+    room.act(alloc, &rt, Call::NewLink)?;
+    room.join_many(alloc, &rt, NODE_LIMIT as u32)?;
+    assert!(rt; room.message.as_slice().ends_with(SUCCESS));
+    room.play(alloc, &rt, b"J1T1")?;
+    assert!(rt; room.message.as_slice().ends_with(OVER));
+    room.join_many(alloc, &rt, 1)?;
+    assert!(rt; room.message.as_slice().ends_with(SUCCESS));
+    Ok(())
+}
+
+#[test]
+fn no_triple_is_inserted_beside_262144(rt: HostRuntime) -> Result<(), Fail> {
+    let alloc = rt.alloc();
+    let mut room = Room::<Brand>::new(alloc, Blank::new(1))?;
+    room.play(alloc, &rt, b"N.J1T1")?;
+    let mut from = 1_000_000;
+    for _ in 0..TRIPLE_LIMIT as u32 / BATCH {
+        room.insert_many(alloc, &rt, from, BATCH)?;
+        from = BATCH.saturating_add(from);
+    }
+    assert!(rt; room.message.as_slice().ends_with(SUCCESS));
+    assert_eq!(rt; room.core.triples(), TRIPLE_LIMIT as u64);
+    room.insert_many(alloc, &rt, from, 1)?;
+    assert!(rt; room.message.as_slice().ends_with(OVER));
+    assert_eq!(rt; (room.core.updates(), room.core.triples()), (256, TRIPLE_LIMIT as u64));
+    Ok(())
+}
+
+#[test]
+fn the_laws_are_called() {
+    updates_remove_first();
+    runs_stay_in_order();
+    updates_make_the_graph();
+    messages_stay_in_order();
+    taken_is_a_prefix_of_sent();
+}
