@@ -56,6 +56,11 @@ pub common_end : (word bytes : List ℕ) (at : ℕ) → (length word ≤ at) ⊎
 common_end word bytes at (inl h) = ap (λ xs. common xs (drop at bytes)) (drop_all at word h) ∙ common_none (drop at bytes)
 common_end word bytes at (inr h) = ap (λ xs. common (drop at word) xs) (drop_all at bytes h) ∙ common_nil (drop at word)
 
+-- a word that stands in front is all of what they have in common
+pub common_whole : (word rest : List ℕ) → common word (word ++ rest) ≡ length word
+common_whole [] rest = common_none rest
+common_whole (x ∷ word) rest = common_same x x word (word ++ rest) refl ∙ (ap (λ n. n + 1) (common_whole word rest) ∙ add-one (length word))
+
 -- it is no longer than the word, and than the bytes
 pub common_within : (word bytes : List ℕ) → (common word bytes ≤ length word) × (common word bytes ≤ length bytes)
 common_within [] bytes = let e = common_none bytes in (omega arith, omega arith)

@@ -24,19 +24,19 @@ fits_under : ℕ → List Symbol → Bool
 fits_under n [] = true
 fits_under n (symbol ∷ symbols) = nat_le (need symbol + length symbols) n && fits_under n symbols
 
--- a word begins with a byte of ASCII
-begins_low : Lexeme → Bool
-begins_low (Word []) = false
-begins_low (Word (byte ∷ word)) = nat_lt byte 128
-begins_low White = true
-begins_low (Except refused) = true
+-- a word begins with a byte of ASCII, and has at most 63 bytes
+is_good_word : Lexeme → Bool
+is_good_word (Word []) = false
+is_good_word (Word (byte ∷ word)) = nat_lt byte 128 && nat_lt (length word) 63
+is_good_word White = true
+is_good_word (Except refused) = true
 
 all_good : ℕ → List Choice → Bool
 all_good n [] = true
-all_good n (choice ∷ choices) = (begins_low choice.0 && fits_under n choice.1) && all_good n choices
+all_good n (choice ∷ choices) = (is_good_word choice.0 && fits_under n choice.1) && all_good n choices
 
 good_items_of : (a b c d e : Bool) → all_good 16 (options (Items (record { message_type = a; transaction_type = b; transaction_id = c; node_id = d; space_id = e }))) ≡ true
-unfolding all_good begins_low fits_under need element_need options starting finishing tag_name
+unfolding all_good is_good_word fits_under need element_need options starting finishing tag_name
 good_items_of true true true true true = refl
 good_items_of true true true true false = refl
 good_items_of true true true false true = refl
@@ -74,7 +74,7 @@ good_items : (seen : Seen) → all_good 16 (options (Items seen)) ≡ true
 good_items seen = good_items_of seen.message_type seen.transaction_type seen.transaction_id seen.node_id seen.space_id
 
 good_open : (name : TagName) → all_good (need (Open name)) (options (Open name)) ≡ true
-unfolding all_good begins_low fits_under need element_need options content may_be_empty
+unfolding all_good is_good_word fits_under need element_need options content may_be_empty
 good_open tag.MessageType = refl
 good_open tag.TransactionType = refl
 good_open tag.TransactionId = refl
@@ -98,7 +98,7 @@ good_open tag.Bnode = refl
 good_open tag.SsapMessage = refl
 
 good_optional : (name : TagName) → all_good (need (Optional name)) (options (Optional name)) ≡ true
-unfolding all_good begins_low fits_under need element_need options content may_be_empty
+unfolding all_good is_good_word fits_under need element_need options content may_be_empty
 good_optional tag.MessageType = refl
 good_optional tag.TransactionType = refl
 good_optional tag.TransactionId = refl
@@ -122,7 +122,7 @@ good_optional tag.Bnode = refl
 good_optional tag.SsapMessage = refl
 
 good_optional_spaced : (name : TagName) → all_good (need (OptionalSpaced name)) (options (OptionalSpaced name)) ≡ true
-unfolding all_good begins_low fits_under need element_need options content may_be_empty attribute_name
+unfolding all_good is_good_word fits_under need element_need options content may_be_empty attribute_name
 good_optional_spaced tag.MessageType = refl
 good_optional_spaced tag.TransactionType = refl
 good_optional_spaced tag.TransactionId = refl
@@ -146,7 +146,7 @@ good_optional_spaced tag.Bnode = refl
 good_optional_spaced tag.SsapMessage = refl
 
 good_many : (name : TagName) → all_good (need (Many name)) (options (Many name)) ≡ true
-unfolding all_good begins_low fits_under need element_need options item starting finishing tag_name
+unfolding all_good is_good_word fits_under need element_need options item starting finishing tag_name
 good_many tag.MessageType = refl
 good_many tag.TransactionType = refl
 good_many tag.TransactionId = refl
@@ -170,7 +170,7 @@ good_many tag.Bnode = refl
 good_many tag.SsapMessage = refl
 
 good_values : (name : TagName) → all_good 1 (options (Next (word.Values name))) ≡ true
-unfolding all_good begins_low fits_under need element_need options words attribute_values kind_words
+unfolding all_good is_good_word fits_under need element_need options words attribute_values kind_words
 good_values tag.MessageType = refl
 good_values tag.TransactionType = refl
 good_values tag.TransactionId = refl
@@ -193,8 +193,56 @@ good_values tag.Literal = refl
 good_values tag.Bnode = refl
 good_values tag.SsapMessage = refl
 
+good_start : (name : TagName) → all_good 1 (options (Next (word.Start name))) ≡ true
+unfolding all_good is_good_word fits_under need options words starting tag_name
+good_start tag.MessageType = refl
+good_start tag.TransactionType = refl
+good_start tag.TransactionId = refl
+good_start tag.NodeId = refl
+good_start tag.SpaceId = refl
+good_start tag.Parameter = refl
+good_start tag.TripleList = refl
+good_start tag.Triple = refl
+good_start tag.Subject = refl
+good_start tag.Predicate = refl
+good_start tag.Object = refl
+good_start tag.Sparql = refl
+good_start tag.Head = refl
+good_start tag.Variable = refl
+good_start tag.Results = refl
+good_start tag.Result = refl
+good_start tag.Binding = refl
+good_start tag.Uri = refl
+good_start tag.Literal = refl
+good_start tag.Bnode = refl
+good_start tag.SsapMessage = refl
+
+good_finish : (name : TagName) → all_good 1 (options (Next (word.Finish name))) ≡ true
+unfolding all_good is_good_word fits_under need options words finishing tag_name
+good_finish tag.MessageType = refl
+good_finish tag.TransactionType = refl
+good_finish tag.TransactionId = refl
+good_finish tag.NodeId = refl
+good_finish tag.SpaceId = refl
+good_finish tag.Parameter = refl
+good_finish tag.TripleList = refl
+good_finish tag.Triple = refl
+good_finish tag.Subject = refl
+good_finish tag.Predicate = refl
+good_finish tag.Object = refl
+good_finish tag.Sparql = refl
+good_finish tag.Head = refl
+good_finish tag.Variable = refl
+good_finish tag.Results = refl
+good_finish tag.Result = refl
+good_finish tag.Binding = refl
+good_finish tag.Uri = refl
+good_finish tag.Literal = refl
+good_finish tag.Bnode = refl
+good_finish tag.SsapMessage = refl
+
 good_listed : (list : Words) → all_good 1 (options (Next list)) ≡ true
-unfolding all_good begins_low fits_under need element_need options words starting finishing message_types transactions kind_words
+unfolding all_good is_good_word fits_under need element_need options words starting finishing message_types transactions kind_words
 good_listed word.Greater = refl
 good_listed word.Equals = refl
 good_listed word.Version = refl
@@ -207,12 +255,36 @@ good_listed word.Name = refl
 good_listed word.Kind = refl
 good_listed word.ObjectKinds = refl
 good_listed (word.Values name) = good_values name
-good_listed (word.Start name) = refl
-good_listed (word.Finish name) = refl
+good_listed (word.Start name) = good_start name
+good_listed (word.Finish name) = good_finish name
 
--- all words begin with a byte of ASCII, and all that is pushed has what it needs
+good_text : (name : TagName) → all_good (need (Text name)) (options (Text name)) ≡ true
+unfolding all_good is_good_word fits_under need options finishing tag_name references
+good_text tag.MessageType = refl
+good_text tag.TransactionType = refl
+good_text tag.TransactionId = refl
+good_text tag.NodeId = refl
+good_text tag.SpaceId = refl
+good_text tag.Parameter = refl
+good_text tag.TripleList = refl
+good_text tag.Triple = refl
+good_text tag.Subject = refl
+good_text tag.Predicate = refl
+good_text tag.Object = refl
+good_text tag.Sparql = refl
+good_text tag.Head = refl
+good_text tag.Variable = refl
+good_text tag.Results = refl
+good_text tag.Result = refl
+good_text tag.Binding = refl
+good_text tag.Uri = refl
+good_text tag.Literal = refl
+good_text tag.Bnode = refl
+good_text tag.SsapMessage = refl
+
+-- all words begin with a byte of ASCII and have at most 63 bytes, and all that is pushed has what it needs
 options_good : (symbol : Symbol) → all_good (need symbol) (options symbol) ≡ true
-unfolding all_good begins_low fits_under need element_need options starting finishing tag_name references
+unfolding all_good is_good_word fits_under need element_need options starting finishing tag_name references
 options_good Message = refl
 options_good (Next list) = good_listed list
 options_good (Spaced list) = refl
@@ -232,7 +304,7 @@ options_good Quote = refl
 options_good (Value true) = refl
 options_good (Value false) = refl
 options_good Blank = refl
-options_good (Text name) = refl
+options_good (Text name) = good_text name
 options_good (Cdata bracket.None) = refl
 options_good (Cdata bracket.One) = refl
 options_good (Cdata bracket.Some) = refl
@@ -240,22 +312,30 @@ options_good (Many name) = good_many name
 options_good Term = refl
 
 good_among : (n : ℕ) (choices : List Choice) (choice : Choice) → all_good n choices ≡ true → IsAmong choice choices
-    → (begins_low choice.0 ≡ true) × (fits_under n choice.1 ≡ true)
+    → (is_good_word choice.0 ≡ true) × (fits_under n choice.1 ≡ true)
 unfolding all_good
 good_among n [] choice good among = absurd among
-good_among n (other ∷ choices) choice good (inl e) = let both = and_parts (begins_low other.0 && fits_under n other.1) (all_good n choices) good in
-    subst (λ (c : Choice). (begins_low c.0 ≡ true) × (fits_under n c.1 ≡ true)) (sym e) (and_parts (begins_low other.0) (fits_under n other.1) both.0)
-good_among n (other ∷ choices) choice good (inr among) = good_among n choices choice (and_parts (begins_low other.0 && fits_under n other.1) (all_good n choices) good).1 among
+good_among n (other ∷ choices) choice good (inl e) = let both = and_parts (is_good_word other.0 && fits_under n other.1) (all_good n choices) good in
+    subst (λ (c : Choice). (is_good_word c.0 ≡ true) × (fits_under n c.1 ≡ true)) (sym e) (and_parts (is_good_word other.0) (fits_under n other.1) both.0)
+good_among n (other ∷ choices) choice good (inr among) = good_among n choices choice (and_parts (is_good_word other.0 && fits_under n other.1) (all_good n choices) good).1 among
 
-low_word : (word : List ℕ) → begins_low (Word word) ≡ true → (byte : ℕ) × (rest : List ℕ) × (word ≡ byte ∷ rest) × (byte < 128)
-unfolding begins_low
-low_word [] h = absurd (cc)
-low_word (byte ∷ word) h = (byte, word, refl, ltb-true byte 128 h)
+good_word : (word : List ℕ) → is_good_word (Word word) ≡ true
+    → ((byte : ℕ) × (rest : List ℕ) × (word ≡ byte ∷ rest) × (byte < 128)) × (length word ≤ 63)
+unfolding is_good_word
+good_word [] h = absurd (cc)
+good_word (byte ∷ word) h =
+    let parts = and_parts (nat_lt byte 128) (nat_lt (length word) 63) h in
+    let short = ltb-true (length word) 63 parts.1 in
+    ((byte, word, refl, ltb-true byte 128 parts.0), omega arith)
 
 -- a word begins with a byte of ASCII
 pub word_low : (symbol : Symbol) (word : List ℕ) (pushed : List Symbol) → IsAmong (Word word, pushed) (options symbol)
     → (byte : ℕ) × (rest : List ℕ) × (word ≡ byte ∷ rest) × (byte < 128)
-word_low symbol word pushed among = low_word word (good_among (need symbol) (options symbol) (Word word, pushed) (options_good symbol) among).0
+word_low symbol word pushed among = (good_word word (good_among (need symbol) (options symbol) (Word word, pushed) (options_good symbol) among).0).0
+
+-- a word has at most 63 bytes
+pub word_short : (symbol : Symbol) (word : List ℕ) (pushed : List Symbol) → IsAmong (Word word, pushed) (options symbol) → length word ≤ 63
+word_short symbol word pushed among = (good_word word (good_among (need symbol) (options symbol) (Word word, pushed) (options_good symbol) among).0).1
 
 under_fits : (n : ℕ) (symbols below : List Symbol) → fits_under n symbols ≡ true → n + length below ≤ 16 → Fits below → Fits (symbols ++ below)
 unfolding fits_under

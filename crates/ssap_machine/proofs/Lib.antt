@@ -13,3 +13,4 @@ pub mod Apart
 pub mod Walking
 pub mod Completions
 pub mod Starts
+pub mod ShortLexemes

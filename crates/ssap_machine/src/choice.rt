@@ -45,10 +45,14 @@ pub(crate) enum Found {
     Stuck { place: usize },
 }
 
-/// The length of the front that a word and the bytes have in common.
+/// The length of the prefix that a word and the bytes have in common. Mostly the whole word stands there, so this is
+/// tested first, many bytes at once.
 fn common_front(word: &[u8], bytes: &[u8]) -> usize
     ensures { result ≡ common word.now bytes.now }
 {
+    if bytes.starts_with(word) {
+        return word.len();
+    }
     let end = word.len().min(bytes.len());
     for at in 0..end {
         if word[at] != bytes[at] {

@@ -227,27 +227,21 @@ fn step_tight(symbol: Symbol, stack: &mut Stack, bytes: &[u8]) -> Step
     }
 }
 
-/// Reads a run of white space, or what stands in front of none.
-fn step_spaced(symbol: Symbol, next: Symbol, stack: &mut Stack, bytes: &[u8]) -> Step
-    requires fits { Fits (symbol ∷ stack.old) }
-    requires next { white_next symbol ≡ Some next }
-    ensures { Steps symbol bytes.now result stack.old stack.new }
-{
-    let count = white_len(bytes);
-    if count > 0 {
-        stack.push(next);
-        return Step::Taken { count };
-    }
-    step_tight(symbol, stack, bytes)
-}
-
-/// Reads on from a symbol that was on top of the stack.
+/// Reads on from a symbol that was on top of the stack: a run of white space, where the symbol may begin with one, or
+/// what stands there.
 pub(crate) fn read_on(symbol: Symbol, stack: &mut Stack, bytes: &[u8]) -> Step
     requires { Fits (symbol ∷ stack.old) }
     ensures { Steps symbol bytes.now result stack.old stack.new }
 {
+    let count = white_len(bytes);
+    if count == 0 {
+        return step_tight(symbol, stack, bytes);
+    }
     match after_white(symbol) {
-        Some(next) => step_spaced(symbol, next, stack, bytes),
+        Some(next) => {
+            stack.push(next);
+            Step::Taken { count }
+        }
         None => step_tight(symbol, stack, bytes),
     }
 }
