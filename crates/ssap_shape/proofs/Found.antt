@@ -29,44 +29,35 @@ pub no_second : (a b : Bool) → (a || b) ≡ false → b ≡ false
 no_second true b h = absurd (true≢false h)
 no_second false b h = h
 
--- of three that don't hold the last doesn't
-no_third : (a b c : Bool) → (a || b || c) ≡ false → c ≡ false
-no_third true b c h = absurd (true≢false h)
-no_third false true c h = absurd (true≢false h)
-no_third false false c h = h
+-- of three tests that fail together each fails
+pub three : (a b c : Bool) → (a || b || c) ≡ false → (a ≡ false) × (b ≡ false) × (c ≡ false)
+three true b c h = absurd (true≢false h)
+three false true c h = absurd (true≢false h)
+three false false c h = (refl, refl, h)
 
--- of five that don't hold the last two don't
-last_two : (a b c d e : Bool) → (a || b || c || d || e) ≡ false → (d ≡ false) × (e ≡ false)
-last_two true b c d e h = absurd (true≢false h)
-last_two false true c d e h = absurd (true≢false h)
-last_two false false true d e h = absurd (true≢false h)
-last_two false false false true e h = absurd (true≢false h)
-last_two false false false false e h = (refl, h)
+-- so does each of five
+pub five : (a b c d e : Bool) → (a || b || c || d || e) ≡ false → (a ≡ false) × (b ≡ false) × (c ≡ false) × (d ≡ false) × (e ≡ false)
+five true b c d e h = absurd (true≢false h)
+five false true c d e h = absurd (true≢false h)
+five false false c d e h = let rest = three c d e h in (refl, refl, rest.0, rest.1, rest.2)
 
 -- of two that don't both hold one doesn't where the other does
-no_both : (a b : Bool) → a ≡ true → (a && b) ≡ false → b ≡ false
+pub no_both : (a b : Bool) → a ≡ true → (a && b) ≡ false → b ≡ false
 no_both true b e h = h
 no_both false b e h = absurd (true≢false (sym e))
 
--- where the first holds one of three does
-first_holds3 : (a b c : Bool) → a ≡ true → ((a || b) || c) ≡ true
-first_holds3 true b c e = refl
-first_holds3 false b c e = absurd (true≢false (sym e))
+-- where the first of two holds one does
+pub holds_left : (a b : Bool) → a ≡ true → (a || b) ≡ true
+holds_left true b h = refl
+holds_left false b h = absurd (true≢false (sym h))
 
 -- so it does where the second holds
-second_holds3 : (a b c : Bool) → b ≡ true → ((a || b) || c) ≡ true
-second_holds3 true b c e = refl
-second_holds3 false true c e = refl
-second_holds3 false false c e = absurd (true≢false (sym e))
-
--- and where the third holds
-third_holds3 : (a b c : Bool) → c ≡ true → ((a || b) || c) ≡ true
-third_holds3 true b c e = refl
-third_holds3 false true c e = refl
-third_holds3 false false c e = e
+pub holds_right : (a b : Bool) → b ≡ true → (a || b) ≡ true
+holds_right true b h = refl
+holds_right false b h = h
 
 -- what holds isn't lacking
-not_lacking : (a b : Bool) → a ≡ true → (a && not b) ≡ false → b ≡ true
+pub not_lacking : (a b : Bool) → a ≡ true → (a && not b) ≡ false → b ≡ true
 not_lacking true true e h = refl
 not_lacking true false e h = absurd (true≢false h)
 not_lacking false b e h = absurd (true≢false (sym e))
@@ -152,8 +143,8 @@ language_known envelope passes asks other =
 right_query : (kind : Transaction) (params : List Param) (param : Param) → is_named Query param ≡ true → is_wrong_param kind params param ≡ false
     → language_of (given params QueryType) ≡ language.TheVariants.Sparql → is_text param.body ≡ true
 right_query kind params param e h is =
-    let five = no_third (not (is_known kind param)) (is_doubled params param) (is_misfilled params param) h in
-    let wrong = (last_two (is_wrong_graph param) (is_wrong_flag param) (is_wrong_type param) (is_wrong_query params param) (is_wrong_number param) five).0 in
+    let filled = (three (not (is_known kind param)) (is_doubled params param) (is_misfilled params param) h).2 in
+    let wrong = (five (is_wrong_graph param) (is_wrong_flag param) (is_wrong_type param) (is_wrong_query params param) (is_wrong_number param) filled).3 in
     let right = not_lacking (is_named Query param) (is_query_in (language_of (given params QueryType)) param.body) e wrong in
     subst (λ l. is_query_in l param.body ≡ true) is right
 
@@ -161,8 +152,8 @@ right_query kind params param e h is =
 right_number : (kind : Transaction) (params : List Param) (param : Param) → is_named SubscriptionId param ≡ true → is_wrong_param kind params param ≡ false
     → is_text param.body ≡ true
 right_number kind params param e h =
-    let five = no_third (not (is_known kind param)) (is_doubled params param) (is_misfilled params param) h in
-    let wrong = (last_two (is_wrong_graph param) (is_wrong_flag param) (is_wrong_type param) (is_wrong_query params param) (is_wrong_number param) five).1 in
+    let filled = (three (not (is_known kind param)) (is_doubled params param) (is_misfilled params param) h).2 in
+    let wrong = (five (is_wrong_graph param) (is_wrong_flag param) (is_wrong_type param) (is_wrong_query params param) (is_wrong_number param) filled).4 in
     not_lacking (is_named SubscriptionId param) (is_text param.body) e wrong
 
 -- the body of what is given
@@ -203,7 +194,7 @@ named_at p x xs y false e h more =
     more rest
 
 -- what is found passes the test by which it is found
-passes : (p : Param → Bool) (xs : List Param) (y : Param) → find p xs ≡ Some y → p y ≡ true
+pub passes : (p : Param → Bool) (xs : List Param) (y : Param) → find p xs ≡ Some y → p y ≡ true
 passes p [] y h = grind (arith, h)
 passes p (x ∷ xs) y h = named_at p x xs y (p x) refl h (passes p xs y)
 
@@ -214,17 +205,17 @@ terms_at params name None e h terms = refl
 terms_at params name (Some param) e h terms =
     let unbuilt = clear (is_named name) asks_unbuilt params param e h in
     let some = terms param (passes (is_named name) params param e) in
-    let lacking = no_third (is_graph_named param && is_foreign param.encoding) (is_other_type param) (has_terms param && list_any has_bnode (triples_in param.body)) unbuilt in
+    let lacking = (three (is_graph_named param && is_foreign param.encoding) (is_other_type param) (has_terms param && list_any has_bnode (triples_in param.body)) unbuilt).2 in
     no_both (has_terms param) (list_any has_bnode (triples_in param.body)) some lacking
 
 -- a graph to insert has no blank node where nothing unbuilt is asked for
 pub terms_insert : (params : List Param) → list_any asks_unbuilt params ≡ false → list_any has_bnode (triples_of (given params InsertGraph)) ≡ false
-terms_insert params h = terms_at params InsertGraph _ refl h (λ param e. first_holds3 (is_named InsertGraph param) (is_named RemoveGraph param) (is_named Query param) e)
+terms_insert params h = terms_at params InsertGraph _ refl h (λ param e. holds_left (is_graph_named param) (is_named Query param) (holds_left (is_named InsertGraph param) (is_named RemoveGraph param) e))
 
 -- the same of a graph to remove
 pub terms_remove : (params : List Param) → list_any asks_unbuilt params ≡ false → list_any has_bnode (triples_of (given params RemoveGraph)) ≡ false
-terms_remove params h = terms_at params RemoveGraph _ refl h (λ param e. second_holds3 (is_named InsertGraph param) (is_named RemoveGraph param) (is_named Query param) e)
+terms_remove params h = terms_at params RemoveGraph _ refl h (λ param e. holds_left (is_graph_named param) (is_named Query param) (holds_right (is_named InsertGraph param) (is_named RemoveGraph param) e))
 
 -- the same of a query
 pub terms_query : (params : List Param) → list_any asks_unbuilt params ≡ false → list_any has_bnode (triples_of (given params Query)) ≡ false
-terms_query params h = terms_at params Query _ refl h (λ param e. third_holds3 (is_named InsertGraph param) (is_named RemoveGraph param) (is_named Query param) e)
+terms_query params h = terms_at params Query _ refl h (λ param e. holds_right (is_graph_named param) (is_named Query param) e)

@@ -4,3 +4,4 @@ mod Found
 pub mod Onces
 mod ExampleShapes
 pub mod Somes
+mod SoundShapes

@@ -6,5 +6,6 @@ pub mod Ranks
 pub mod Shape
 pub mod Plain
 pub mod Replies
+pub mod Sound
 pub mod Laws
 pub mod Examples

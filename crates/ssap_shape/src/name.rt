@@ -1,8 +1,8 @@
 //! The names of parameters, and the parameters of these names.
 ghost use Rattle.std.specs.Prelude.{◌≡◌, option_copied};
-ghost use Rattle.ssap_shape.specs.Table.{word, is_named as names, has as has_it, given as given_by, is_known as knows};
+ghost use Rattle.ssap_shape.specs.Table.{word, is_named as names, has as has_it, given as given_by};
 
-use ssap_items::{Param, Params, Transaction};
+use ssap_items::{Param, Params};
 
 /// The names of the parameters of requests and of answers.
 #[derive(Clone, Copy)]
@@ -63,29 +63,4 @@ pub fn given(params: &Params, name: Name) -> Option<&Param>
     ensures { option_copied result ≡ given_by params.now name }
 {
     params.as_slice().iter().find(|param| is_named(param, name))
-}
-
-/// Whether a request of this transaction has or may have the parameter.
-pub fn is_known(transaction: Transaction, param: &Param) -> bool
-    ensures { result ≡ knows transaction param.now }
-{
-    match transaction {
-        Transaction::Join => is_named(param, Name::Credentials),
-        Transaction::Leave => false,
-        Transaction::Insert => {
-            is_named(param, Name::InsertGraph) || is_named(param, Name::Confirm)
-        }
-        Transaction::Remove => {
-            is_named(param, Name::RemoveGraph) || is_named(param, Name::Confirm)
-        }
-        Transaction::Update => {
-            is_named(param, Name::InsertGraph)
-                || is_named(param, Name::RemoveGraph)
-                || is_named(param, Name::Confirm)
-        }
-        Transaction::Query | Transaction::Subscribe => {
-            is_named(param, Name::QueryType) || is_named(param, Name::Query)
-        }
-        Transaction::Unsubscribe => is_named(param, Name::SubscriptionId),
-    }
 }

@@ -1,11 +1,12 @@
-//! What is wrong with a message, in the order in which it decides.
+//! The faults of a message, in their order. The first one decides.
 ghost use Rattle.std.specs.Prelude.{◌≡◌, MatchOption};
-ghost use Rattle.ssap_shape.specs.Ranks.{is_asking as asking, is_bad_id as bad_id, is_no_request as no_request, is_incomplete as incomplete, is_doubled as doubled, is_wrong_number as wrong_number, is_misfilled as misfilled, is_wrong_param as wrong_param, is_wrong as wrong, has_terms as has_terms_in, asks_unbuilt as unbuilt_in, is_unbuilt as unbuilt, asks_too_much as too_much_in, is_too_much as too_much};
+ghost use Rattle.ssap_shape.specs.Ranks.{is_asking as asking, is_bad_id as bad_id, is_no_request as no_request, is_doubled as doubled, is_wrong_number as wrong_number, is_misfilled as misfilled, is_wrong_param as wrong_param, is_wrong as wrong, has_terms as has_terms_in, asks_unbuilt as unbuilt_in, is_unbuilt as unbuilt, asks_too_much as too_much_in, is_too_much as too_much};
 ghost use Rattle.ssap_shape.specs.Shape.{IsRefused, Passes};
 
 use crate::Status;
-use crate::name::{Name, has, is_known, is_named};
+use crate::name::{Name, is_named};
 use crate::query::{is_other_type, is_wide_query, is_wrong_query, is_wrong_type};
+use crate::table::{is_incomplete, is_known};
 use crate::templates::{has_bnodes, has_long_terms, is_text};
 use crate::update::{is_foreign, is_graph_named, is_wrong_flag, is_wrong_graph};
 use m3_terms::Text;
@@ -34,22 +35,6 @@ pub fn is_no_request(heads: &Heads) -> bool
         || is_bad_id(&heads.transaction_id)
         || is_bad_id(&heads.node_id)
         || is_bad_id(&heads.space_id)
-}
-
-fn is_incomplete(envelope: &Envelope) -> bool
-    ensures { result ≡ incomplete envelope.now }
-{
-    let params = &envelope.params;
-    match envelope.heads.transaction {
-        Transaction::Join | Transaction::Leave => false,
-        Transaction::Insert => !has(params, Name::InsertGraph),
-        Transaction::Remove => !has(params, Name::RemoveGraph),
-        Transaction::Update => !has(params, Name::InsertGraph) || !has(params, Name::RemoveGraph),
-        Transaction::Query | Transaction::Subscribe => {
-            !has(params, Name::QueryType) || !has(params, Name::Query)
-        }
-        Transaction::Unsubscribe => !has(params, Name::SubscriptionId),
-    }
 }
 
 fn is_doubled(params: &Params, param: &Param) -> bool
@@ -128,7 +113,7 @@ fn is_too_much(envelope: &Envelope) -> bool
     envelope.params.as_slice().iter().any(asks_too_much)
 }
 
-/// The status that refuses the request for its parameters, by the first rank that applies, or None where none does.
+/// The status of the first fault among the parameters. None where there is none.
 pub fn refusal(envelope: &Envelope) -> Option<Status>
     ensures { MatchOption result (Passes envelope.now) (IsRefused envelope.now) }
 {

@@ -2,8 +2,8 @@ use crate::Status;
 use answer_bodies::{Answer, Difference};
 use ssap_items::Heads;
 
-/// The answer to a request: the request's heads, the status, and where there are such the subscription's number and the
-/// answer to the query.
+/// The answer to a request: its heads, the status, and where the request has them the number of its subscription and the
+/// answer to its query.
 #[derive(Debug, Drop)]
 pub struct Confirm {
     pub heads: Heads,
@@ -12,7 +12,7 @@ pub struct Confirm {
     pub answer: Option<Answer>,
 }
 
-/// What a subscription tells unasked: how its answer changed, under a number that counts these, or that it ended.
+/// An event of a subscription: its answer changed, under a number that counts these changes, or it ended.
 #[derive(Debug, Drop)]
 pub enum Indication {
     Changes {

@@ -1,18 +1,18 @@
 ghost use Rattle.std.specs.Prelude.{◌≡◌};
 ghost use Rattle.ssap_shape.specs.Replies.{status_word};
 
-/// How a request went, as its confirm tells.
+/// The outcome of a request, as its confirm states it.
 #[derive(Clone, Copy, Debug, PartialEq, Eq)]
 pub enum Status {
-    /// The request was done.
+    /// The request took effect.
     Success,
     /// The node isn't joined.
     AccessDenied,
-    /// The request is for more than a limit allows.
+    /// The request passes a limit.
     OutOfResources,
-    /// The request is for what isn't built.
+    /// The request asks for a part of the protocol that isn't built.
     NotImplemented,
-    /// The request is for another space, or can't be done for what it says.
+    /// The request is for another space, or has an operand that the space refuses.
     Request,
     /// A parameter is missing.
     Incomplete,
