@@ -26,24 +26,24 @@ appends_kept (Some x) None c bytes p q = absurd p
 appends_kept (Some x) (Some y) None bytes p q = absurd q
 appends_kept (Some x) (Some y) (Some z) bytes p q = q ∙ p
 
--- nothing appended is a front of any bytes
+-- nothing appended is a prefix of any bytes
 pub kept_part : (a b : Option (List ℕ)) (bytes : List ℕ) → Keeps a b → AppendsPart a b bytes
 kept_part a b bytes p = ([], bytes, refl, appends_kept a a b [] (Appends-nil a) p)
 
--- all of the bytes are a front of them
+-- all of the bytes are a prefix of them
 pub whole_part : (a b : Option (List ℕ)) (bytes : List ℕ) → Appends a b bytes → AppendsPart a b bytes
 whole_part a b bytes p = (bytes, [], append-nil bytes, p)
 
--- bytes that went in, and then a front of more, are a front of both
+-- bytes that went in, and then a prefix of more, are a prefix of both
 pub part_after : (a b c : Option (List ℕ)) (first then : List ℕ) → Appends a b first → AppendsPart b c then → AppendsPart a c (first ++ then)
 part_after a b c first then p (part, rest, e, q) =
     (first ++ part, rest, append_assoc first part rest ∙ ap (λ l. first ++ l) e, Appends-trans a b c first part p q)
 
--- a front of the bytes is a front of what goes on from them
+-- a prefix of the bytes is a prefix of what goes on from them
 pub part_of_more : (a b : Option (List ℕ)) (bytes more : List ℕ) → AppendsPart a b bytes → AppendsPart a b (bytes ++ more)
 part_of_more a b bytes more (part, rest, e, q) = (part, rest ++ more, sym (append_assoc part rest more) ∙ ap (λ l. l ++ more) e, q)
 
--- the front of a list, and the rest behind it
+-- a prefix of a list, and the rest behind it
 front_rest : (into left : List ℕ) (count most : ℕ) → take count into ≡ take count (take most left) → count ≤ most → left ≡ take count into ++ drop count left
 front_rest into left count most e h =
     sym (ap (λ l. l ++ drop count left) (e ∙ take-take count most left h) ∙ take-append-drop count left)
@@ -67,6 +67,6 @@ given items into left front at count most piece room is_left is_most is_front is
       λ z r. sym behind ∙ none_left left count piece room some (counted ∙ ap (λ n. min room (length (take n left))) is_most) z r,
     )
 
--- a front of the bytes that was kept
+-- a prefix of the bytes that was kept
 pub part_kept : (a b c : Option (List ℕ)) (bytes : List ℕ) → AppendsPart a b bytes → Keeps b c → AppendsPart a c bytes
 part_kept a b c bytes (part, rest, e, q) k = (part, rest, e, appends_kept a b c part q k)

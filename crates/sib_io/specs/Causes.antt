@@ -13,10 +13,10 @@ pub record HasCause {T E : Type 0} (before now : ℕ) (result : Result T E) : Ty
   pub failed : OnErr result (Rose before now)
   pub kept : OnOk result (now ≡ before)
 
--- known bytes grow by a front of these
+-- known bytes grow by a prefix of these
 abbrev pub AppendsPart : Option (List ℕ) → Option (List ℕ) → List ℕ → Type 0
 AppendsPart old new bytes = (part : List ℕ) × (rest : List ℕ) × (part ++ rest ≡ bytes) × Appends old new part
 
--- a write appends all of the bytes, or a front of them where it fails
+-- a write appends all of the bytes, or a prefix of them where it fails
 abbrev pub Writes : {T E : Type 0} → Option (List ℕ) → Option (List ℕ) → Result T E → List ℕ → Type 0
 Writes old new result bytes = MatchResult result (λ _. Appends old new bytes) (λ _. AppendsPart old new bytes)

@@ -31,26 +31,28 @@ impl Calls {
         }
     }
 
+    /// How many calls are to fail.
     pub fn len(&self) -> usize
         ensures { result ≡ length self.now }
     {
         self.items.len()
     }
 
+    /// Whether no call is to fail.
     pub fn is_empty(&self) -> bool
         ensures { IsTrue result ↔ (self.now ≡ []) }
     {
         self.items.is_empty()
     }
 
-    /// The number at a place, counted from 0.
+    /// The number at an index, or `None` from the end on.
     pub fn get(&self, at: usize) -> Option<&usize>
         ensures { option_copied result ≡ slice_get self.now at }
     {
         self.items.get(at)
     }
 
-    /// Puts a number at the end.
+    /// Appends a number. After `NoMemory` the list is unchanged.
     pub fn push(&mut self, item: usize) -> Result<(), NoMemory>
         ensures ok { OnOk result (self.new ≡ self.old ++ item ∷ []) }
         ensures err { OnErr result (self.new ≡ self.old) }

@@ -1,6 +1,6 @@
 ghost use Rattle.std.specs.Prelude.{◌≡◌, min, length, take};
 
-// Copies the front of `from` into the front of `into`, as much as both have, and answers how many bytes.
+/// Copies a prefix of `from` into `into`, as much as both have room for, and answers how many bytes.
 pub(crate) fn give(from: &[u8], into: &mut [u8]) -> usize
     ensures count { result ≡ min (length into.old) (length from.now) }
     ensures front { take result into.new ≡ take result from.now }

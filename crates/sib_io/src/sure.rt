@@ -46,11 +46,12 @@ impl Source for SureSource {
     }
 }
 
-/// A sink that never fails. It drops what it is given, since keeping it could find no memory, and tells nothing.
+/// A sink that never fails. It drops what it is given, since keeping it could run out of memory, and tells nothing.
 #[derive(Drop)]
 pub struct SureSink;
 
 impl SureSink {
+    /// A sink that takes no memory.
     pub fn new() -> SureSink {
         SureSink
     }

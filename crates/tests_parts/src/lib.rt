@@ -6,4 +6,8 @@ mod algebra;
 #[cfg(test)]
 mod links;
 #[cfg(test)]
+mod outside;
+#[cfg(test)]
 mod scripts;
+#[cfg(test)]
+mod terms;

@@ -3,7 +3,7 @@ use Rattle.sib_io.specs.Memory.{Held}
 use Rattle.sib_io.proofs.KnownLemmas.{given}
 use Rattle.sib_io.proofs.memory.MemSourceSource.read.Goals as goal
 
--- what was given is the front of what was left, and nothing is given only at the end
+-- what was given is a prefix of what was left, and nothing is given only at the end
 pub returns-clause-bytes : goal.returns-clause-bytes
 returns-clause-bytes c =
     let is_left = c.split_at.ensures.back ∙ ap (λ (l : List ℕ). drop c.self.inside.at l) c.as_slice.ensures.value in
