@@ -9,11 +9,11 @@ use Rattle.ssap_grammar.specs.Message.{Spells}
 use Rattle.ssap_grammar.specs.Laws.{IsDeadEnd}
 use Rattle.ssap_machine.specs.Machine.{IsMessage}
 use Rattle.ssap_machine.specs.declared.symbol.Symbol.{Symbol}
-use Rattle.ssap_decode.specs.Decoding.{Decoding, message_limit, BeginMessage, FirstStops, StopStands, Reaches, Takes, FeedsWaiting, Feeds, IsReady, Refuses}
+use Rattle.ssap_decode.specs.Decoding.{Decoding, message_limit, BeginMessage, FirstStops, StopStands, GoesOn, Reaches, Takes, FeedsWaiting, Feeds, IsReady, Refuses}
 use Rattle.ssap_decode.specs.Unfinished.{AreSpaces, Reads, IsUnfinished, IsKept, stopped_of}
 use Rattle.ssap_decode.specs.declared.framed.Framed.{Framed}
 use Rattle.ssap_decode.specs.declared.framed.Stop.{Stop}
-use Rattle.ssap_decode.specs.declared.framed.Stop.TheVariants.{Syntax, TooLong}
+use Rattle.ssap_decode.specs.declared.framed.Stop.TheVariants.{Syntax, TooLong, NoMemory}
 use Rattle.ssap_decode.specs.declared.decoder.Fault.{Fault}
 use Rattle.ssap_decode.specs.declared.walk.Walked.{Walked}
 use Rattle.ssap_decode.specs.declared.walk.Halt.{Halt}
@@ -181,6 +181,23 @@ first_stops old bytes white part left halt stack read h n k zero some = by_halt 
         subst (λ b. FirstStops old b (Syntax old.taken)) (sym (bytes_are ∙ ap (λ l. l ++ h.beyond) d.is))
         (refl, subst (λ m. IsDeadEnd m d.byte) message (dead_first old.unread bytes white part left h d))
 
+-- where some of the bytes are white space or part of a message no stop stands at the first
+first_goes : (old : Decoding) (bytes white part rest : List ℕ) → bytes ≡ (white ++ part) ++ rest → AllByRecursion IsWhite white
+    → (white ≡ []) ⊎ (old.unread ≡ []) → BeginMessage (old.unread ++ part) → length (old.unread ++ part) ≤ message_limit
+    → (0 < length white + length part) ⊎ (bytes ≡ []) → GoesOn old bytes
+first_goes old [] white part rest e each between begins within some = tt
+first_goes old (byte ∷ bytes) (w ∷ white) part rest e each between begins within some =
+    let same : byte ≡ w = cc in
+    inl (elim between [ inl none ↦ absurd (cc) | inr empty ↦ empty ], subst IsWhite (sym same) each.0)
+first_goes old (byte ∷ bytes) [] (b ∷ part) rest e each between begins within some =
+    let same : b ≡ byte = cc in
+    let more : (old.unread ++ b ∷ part) ++ begins.0 ≡ (old.unread ++ byte ∷ []) ++ (part ++ begins.0) =
+    ap (λ l. l ++ begins.0) (ap (λ x. old.unread ++ x ∷ part) same ∙ sym (append_assoc old.unread (byte ∷ []) part))
+    ∙ append_assoc (old.unread ++ byte ∷ []) part begins.0 in
+    inr (omega (arith, within, length-append old.unread (b ∷ part)), (part ++ begins.0, begins.1, subst (λ l. Spells l begins.1) more begins.2))
+first_goes old (byte ∷ bytes) [] [] rest e each between begins within (inl some) = absurd (omega (arith, some))
+first_goes old (byte ∷ bytes) [] [] rest e each between begins within (inr none) = absurd (cc)
+
 -- a call took these of the bytes
 pub record Took (bytes white part rest : List ℕ) (count : ℕ) : Type 0 where
   pub within : count ≤ length bytes
@@ -306,6 +323,13 @@ fed_whole message bytes result spaces read walked f h =
     let known = subst (λ k. Leaves k message f.part f.left walked.stack (read + walked.count)) h f.leaves in
     subst IsMessage (sym f.is) known.0
 
+-- and some bytes were taken
+pub fed_some : (message bytes result : List ℕ) (spaces read : ℕ) (walked : Walked) → Fed message bytes spaces read walked result
+    → walked.halt ≡ Whole → 0 < spaces + (length result - length message)
+fed_some message bytes result spaces read walked f h =
+    let known = subst (λ k. Leaves k message f.part f.left walked.stack (read + walked.count)) h f.leaves in
+    omega (arith, known.1, ap length f.is, length-append message f.part)
+
 -- and where not, it is kept
 pub fed_kept : (message bytes result : List ℕ) (spaces read taken count : ℕ) (walked : Walked) → Fed message bytes spaces read walked result
     → walked.halt ≢ Whole → length message ≤ taken → length result ≤ message_limit → count ≡ spaces + (length result - length message)
@@ -350,6 +374,18 @@ refused_long old mid new bytes result spaces read walked stop r m fits inside f 
     (new_is, inr (r, long_stops old bytes (take spaces bytes) f.part f.left start f.laid fits above begins (omega arith)))
 
 -- no message goes on with the first byte
+pub refused_dead : (old mid new : Decoding) (bytes result : List ℕ) (spaces read count : ℕ) (walked : Walked) (stop : Stop) → IsReady old
+    → Fed old.unread bytes spaces read walked result → walked.halt ≢ Whole → count ≡ spaces + (length result - length old.unread)
+    → count ≡ 0 → bytes ≢ [] → mid ≡ old → stop ≡ Syntax mid.taken → new ≡ record mid { stopped = Some stop } → Refuses old bytes new stop
+refused_dead old mid new bytes result spaces read count walked stop r f h n zero some same is e =
+    let none : length (take spaces bytes) + length f.part ≡ 0 = omega (arith, zero, fed_count old.unread bytes result spaces read count walked f n) in
+    let stop_is : stop ≡ Syntax old.taken = is ∙ ap (λ (d : Decoding). Syntax d.taken) same in
+    let new_is : new ≡ record old { stopped = Some (Syntax old.taken) } =
+    e ∙ (ap (λ s. record mid { stopped = Some s }) stop_is ∙ ap (λ (d : Decoding). record d { stopped = Some (Syntax old.taken) }) same) in
+    subst (Refuses old bytes new) (sym stop_is)
+    (new_is, inr (r, first_stops old bytes (take spaces bytes) f.part f.left walked.halt walked.stack (read + walked.count) f.laid h f.leaves none some))
+
+-- the same where the fields were set to what was read, which is nothing
 pub refused_syntax : (old mid new : Decoding) (bytes result : List ℕ) (spaces read count : ℕ) (walked : Walked) (stop : Stop) → IsReady old
     → Fed old.unread bytes spaces read walked result → walked.halt ≢ Whole → count ≡ spaces + (length result - length old.unread)
     → count ≡ 0 → bytes ≢ [] → mid ≡ record old { unread = result; taken = old.taken + count } → stop ≡ Syntax mid.taken
@@ -360,11 +396,22 @@ refused_syntax old mid new bytes result spaces read count walked stop r f h n ze
     let unread : result ≡ old.unread = f.is ∙ (ap (λ p. old.unread ++ p) no_part ∙ append-nil old.unread) in
     let taken : old.taken + count ≡ old.taken = omega (arith, zero) in
     let same : mid ≡ old = m ∙ (ap (λ u. record old { unread = u; taken = old.taken + count }) unread ∙ ap (λ t. record old { taken = t }) taken) in
-    let stop_is : stop ≡ Syntax old.taken = is ∙ ap (λ (d : Decoding). Syntax d.taken) same in
-    let new_is : new ≡ record old { stopped = Some (Syntax old.taken) } =
-    e ∙ (ap (λ s. record mid { stopped = Some s }) stop_is ∙ ap (λ (d : Decoding). record d { stopped = Some (Syntax old.taken) }) same) in
-    subst (Refuses old bytes new) (sym stop_is)
-    (new_is, inr (r, first_stops old bytes (take spaces bytes) f.part f.left walked.halt walked.stack (read + walked.count) f.laid h f.leaves none some))
+    refused_dead old mid new bytes result spaces read count walked stop r f h n zero some same is e
+
+-- the system was out of memory, and no stop stood at the first byte
+pub refused_memory : (old new : Decoding) (bytes result : List ℕ) (spaces read : ℕ) (walked : Walked) → IsReady old → new ≡ old
+    → Fed old.unread bytes spaces read walked result → length result ≤ message_limit → (0 < spaces + (length result - length old.unread)) ⊎ (bytes ≡ [])
+    → Refuses old bytes new NoMemory
+refused_memory old new bytes result spaces read walked r same f fits some = (
+  same,
+  r,
+  first_goes old bytes (take spaces bytes) f.part (f.left ++ f.laid.beyond) f.laid.split f.laid.each f.laid.between
+      (leaves_begin walked.halt old.unread f.part f.left walked.stack (read + walked.count) f.leaves) (omega (arith, fits, ap length f.is))
+      (elim some [
+        | inl p ↦ inl (omega (arith, p, f.size, ap length f.is, length-append old.unread f.part))
+        | inr none ↦ inr none
+      ]),
+)
 
 -- no message waits in the fields, and no stop was met
 pub ready_of : (v old : Decoding) → v ≡ old → old.waiting ≡ None → old.stopped ≡ None → IsReady v

@@ -4,3 +4,4 @@ pub mod Feeding
 pub mod Beginning
 pub mod Standing
 pub mod Progressing
+pub mod OneByte

@@ -7,9 +7,9 @@ use Rattle.ssap_grammar.specs.Characters.{IsWhite}
 use Rattle.ssap_grammar.specs.Stream.{Placed, Stream, IsViable, IsPlace, IsWhole, AreMessages, IsInside}
 use Rattle.ssap_grammar.specs.Laws.{IsPart}
 use Rattle.ssap_grammar.proofs.StreamEnds.{nothing_streams, spaces_add, message_add, placed}
-use Rattle.ssap_grammar.proofs.StreamParts.{part_whole, part_inside, dead_end, dead_place}
-use Rattle.ssap_decode.specs.Decoding.{Decoding, message_limit, fresh, FirstStops, StopStands, Reaches, Takes, FeedsWaiting, Feeds, Stays, Refuses, Ends}
-use Rattle.ssap_decode.specs.Standing.{placed_of, IsShort, Waits, Stands, StopIs, IsLeft, FeedStands, NextStands, EndStands}
+use Rattle.ssap_grammar.proofs.StreamParts.{part_whole, part_inside, dead_end, dead_place, wholes_once}
+use Rattle.ssap_decode.specs.Decoding.{Decoding, message_limit, fresh, FirstStops, StopStands, GoesOn, Reaches, Takes, FeedsWaiting, Feeds, Stays, Refuses, Ends}
+use Rattle.ssap_decode.specs.Standing.{placed_of, IsShort, Waits, Stands, StopIs, HasRoom, IsLeft, FeedStands, NextStands, EndStands}
 use Rattle.ssap_decode.specs.declared.framed.Framed.{Framed}
 use Rattle.ssap_decode.specs.declared.framed.Stop.{Stop}
 use Rattle.ssap_decode.specs.declared.framed.Stop.TheVariants.{Syntax, TooLong, Cut, NoMemory}
@@ -185,6 +185,39 @@ first_is old read (byte ∷ bytes) given (TooLong start) s f =
 first_is old read (byte ∷ bytes) given (Cut start) s f = f
 first_is old read (byte ∷ bytes) given NoMemory s f = f
 
+-- the unread bytes begin where the whole messages end
+whole_is : (old : Decoding) (read : List ℕ) (given start : ℕ) (s : Stands old read given) → IsWhole read start → length s.whole ≡ start
+whole_is old read given start s whole =
+    wholes_once read (length s.whole) start
+    (s.messages, subst (λ b. Rattle.ssap_grammar.specs.Stream.IsWholeOf b (length s.whole) s.messages) (sym s.split) (part_whole s.whole old.unread s.messages s.stream s.part))
+    whole
+
+-- where no stop stands a stream goes on, and an unfinished message has room
+has_room : (old : Decoding) (read bytes : List ℕ) (given : ℕ) → Stands old read given → GoesOn old bytes → HasRoom read bytes
+has_room old read [] given s h = tt
+has_room old read (byte ∷ bytes) given s (inl white) =
+    let read_is : read ≡ s.whole = s.split ∙ (ap (λ u. s.whole ++ u) white.0 ∙ append-nil s.whole) in
+    let stream = spaces_add s.whole (byte ∷ []) s.messages s.stream (record { white = byte ∷ []; each = (white.1, tt); reads = refl }) in
+    let all : s.whole ++ byte ∷ [] ≡ (read ++ byte ∷ []) ++ [] = ap (λ r. r ++ byte ∷ []) (sym read_is) ∙ sym (append-nil (read ++ byte ∷ [])) in (
+      ([], s.messages, subst (λ b. Stream b s.messages) all stream),
+      λ start whole.
+          let same = whole_is old read given start s whole in
+          omega (arith, same, ap length read_is),
+    )
+has_room old read (byte ∷ bytes) given s (inr goes) =
+    let room = goes.0 in
+    let word = (old.unread ++ byte ∷ []) ++ goes.1.0 in
+    let messages = s.messages ++ placed s.whole word goes.1.1 ∷ [] in
+    let stream = message_add s.whole word s.messages goes.1.1 s.stream goes.1.2 in
+    let read_is : s.whole ++ old.unread ≡ read = sym s.split in
+    let all : s.whole ++ word ≡ (read ++ byte ∷ []) ++ goes.1.0 =
+    sym (append_assoc s.whole (old.unread ++ byte ∷ []) goes.1.0) ∙ ap (λ l. l ++ goes.1.0) (sym (append_assoc s.whole old.unread (byte ∷ [])) ∙ ap (λ l. l ++ byte ∷ []) read_is) in (
+      (goes.1.0, messages, subst (λ b. Stream b messages) all stream),
+      λ start whole.
+          let same = whole_is old read given start s whole in
+          omega (arith, same, room, ap length s.split, length-append s.whole old.unread),
+    )
+
 -- what is left of the bytes
 left_is : (old new : Decoding) (read piece rest : List ℕ) (given count : ℕ) → count ≡ length piece → Takes old piece rest new
     → Stands new read given → IsLeft new read count rest
@@ -247,7 +280,7 @@ refuses_stand old new bytes (TooLong start) h = λ read given s. (
   elim h.1 [ inl e ↦ inl e | inr f ↦ inr (first_is old read bytes given (TooLong start) s f.1) ],
 )
 refuses_stand old new bytes (Cut start) h = λ read given s. (subst (λ d. Stands d read given) (sym h.0) s, h.1)
-refuses_stand old new bytes NoMemory h = λ read given s. (subst (λ d. Stands d read given) (sym h.0) s, tt)
+refuses_stand old new bytes NoMemory h = λ read given s. (subst (λ d. Stands d read given) (sym h.0) s, has_room old read bytes given s h.2)
 
 -- so it is for either answer
 pub fed_stand : (old new : Decoding) (bytes : List ℕ) (result : Result ℕ Stop) → IfOk result (λ count. Feeds old bytes count new)

@@ -1,5 +1,5 @@
 -- What a decoder is seen as, and what a call of it does.
-use Rattle.std.specs.Prelude.{◌≡◌, ◌≢◌, ◌⊎◌, ℕ, ◌+◌, ◌<◌, ◌≤◌, List, [], ◌∷◌, ◌++◌, length, take, drop, Option, Some, None, Result, Ok, Err}
+use Rattle.std.specs.Prelude.{◌≡◌, ◌≢◌, ◌⊎◌, ℕ, ◌+◌, ◌<◌, ◌≤◌, List, [], ◌∷◌, ◌++◌, length, take, drop, Option, Some, None, Result, Ok, Err, ⊤}
 use Rattle.std.specs.List.{AllByRecursion}
 use Rattle.ssap_items.specs.declared.envelope.Envelope.{Envelope}
 use Rattle.ssap_grammar.specs.Characters.{IsWhite}
@@ -87,6 +87,13 @@ pub record Feeds (old : Decoding) (bytes : List ℕ) (count : ℕ) (new : Decodi
   pub within : count ≤ length bytes
   pub does : FeedsWaiting old old.waiting bytes count new
 
+-- no stop stands at the first of these bytes: it is white space between two messages, or the unread message has room for
+-- it and goes on with it; or there is no byte
+abbrev pub GoesOn : Decoding → List ℕ → Type 0
+GoesOn old [] = ⊤
+GoesOn old (byte ∷ bytes) = ((old.unread ≡ []) × IsWhite byte)
+    ⊎ ((length old.unread < message_limit) × BeginMessage (old.unread ++ byte ∷ []))
+
 -- no message waits and no stop was met, and so bytes are taken
 pub record IsReady (old : Decoding) : Type 0 where
   pub idle : old.waiting ≡ None
@@ -96,12 +103,13 @@ pub record IsReady (old : Decoding) : Type 0 where
 abbrev pub Stays : Decoding → List ℕ → Stop → Type 0
 Stays old bytes stop = (old.stopped ≡ Some stop) ⊎ (IsReady old × FirstStops old bytes stop)
 
--- a call was refused: a stop stands from then on, or there was no memory, and nothing changed
+-- a call was refused: a stop stands from then on, or none stood at the next byte and the system was out of memory, and
+-- nothing changed
 abbrev pub Refuses : Decoding → List ℕ → Decoding → Stop → Type 0
 Refuses old bytes new (Syntax place) = (new ≡ record old { stopped = Some (Syntax place) }) × Stays old bytes (Syntax place)
 Refuses old bytes new (TooLong start) = (new ≡ record old { stopped = Some (TooLong start) }) × Stays old bytes (TooLong start)
 Refuses old bytes new (Cut start) = (new ≡ old) × (old.stopped ≡ Some (Cut start))
-Refuses old bytes new NoMemory = (new ≡ old) × IsReady old
+Refuses old bytes new NoMemory = (new ≡ old) × IsReady old × GoesOn old bytes
 
 -- the end of the bytes: fine where no message is unfinished, and a cut inside one, which stands from then on
 abbrev pub Ends : Decoding → Result (Unit {0}) Stop → Decoding → Type 0

@@ -58,12 +58,18 @@ StopIs read (byte ∷ bytes) (TooLong start) = IsViable (read ++ byte ∷ []) ×
 StopIs read (byte ∷ bytes) (Cut start) = ⊥
 StopIs read (byte ∷ bytes) NoMemory = ⊥
 
--- what was met is known: the stop was met before, or stands here, or there was no memory
+-- behind these bytes no stop stands at the first of the others: with it a stream goes on, and an unfinished message has
+-- room for it
+abbrev pub HasRoom : List ℕ → List ℕ → Type 0
+HasRoom read [] = ⊤
+HasRoom read (byte ∷ bytes) = IsViable (read ++ byte ∷ []) × ((start : ℕ) → IsWhole read start → length read < start + message_limit)
+
+-- what was met is known: the stop was met before, or stands here, or none stands here and the system was out of memory
 abbrev pub IsMet : Decoding → List ℕ → List ℕ → Stop → Type 0
 IsMet old read bytes (Syntax place) = (old.stopped ≡ Some (Syntax place)) ⊎ StopIs read bytes (Syntax place)
 IsMet old read bytes (TooLong start) = (old.stopped ≡ Some (TooLong start)) ⊎ StopIs read bytes (TooLong start)
 IsMet old read bytes (Cut start) = old.stopped ≡ Some (Cut start)
-IsMet old read bytes NoMemory = ⊤
+IsMet old read bytes NoMemory = HasRoom read bytes
 
 -- all were taken, or a message waits, or some were taken and a stop stands at the next: the message has as many as it may,
 -- or no stream goes on with it

@@ -1,12 +1,13 @@
 -- How far the machine has read the bytes of an unfinished message, and what it does with more.
-use Rattle.std.specs.Prelude.{◌≡◌, ◌≢◌, ◌⊎◌, ℕ, ◌-◌, ◌≤◌, List, [], ◌∷◌, ◌++◌, length, take, drop, Option, Some, None}
+use Rattle.std.specs.Prelude.{◌≡◌, ◌≢◌, ◌⊎◌, ℕ, ◌-◌, ◌<◌, ◌≤◌, List, [], ◌∷◌, ◌++◌, length, take, drop, Option, Some, None}
 use Rattle.std.specs.List.{AllByRecursion}
 use Rattle.ssap_grammar.specs.Characters.{IsWhite}
 use Rattle.ssap_machine.specs.Machine.{Walks, IsStuck}
 use Rattle.ssap_machine.specs.Progress.{IsPending}
 use Rattle.ssap_machine.specs.declared.symbol.Symbol.{Symbol}
 use Rattle.ssap_machine.specs.declared.symbol.Symbol.TheVariants.{Message}
-use Rattle.ssap_decode.specs.Decoding.{message_limit}
+use Rattle.ssap_grammar.specs.Laws.{IsDeadEnd}
+use Rattle.ssap_decode.specs.Decoding.{message_limit, BeginMessage}
 use Rattle.ssap_decode.specs.declared.framed.Stop.{Stop}
 use Rattle.ssap_decode.specs.declared.framed.Stop.TheVariants.{Syntax, TooLong, Cut}
 use Rattle.ssap_decode.specs.declared.decoder.Fault.{Fault}
@@ -52,6 +53,14 @@ pub record AreSpaces (message bytes : List ℕ) (count : ℕ) : Type 0 where
   pub each : AllByRecursion IsWhite (take count bytes)
   pub between : (count ≡ 0) ⊎ (message ≡ [])
   pub solid : message ≡ [] → (byte : ℕ) (more : List ℕ) → drop count bytes ≡ byte ∷ more → ¬ (IsWhite byte)
+
+-- the fault that stands at a byte behind an unfinished message, or none: no message goes on with it, or one does and has as
+-- many bytes as it may
+abbrev pub FaultAt : List ℕ → ℕ → Option Fault → Type 0
+FaultAt message byte (Some fault.Syntax) = IsDeadEnd message byte
+FaultAt message byte (Some fault.TooLong) = (length message ≡ message_limit) × BeginMessage (message ++ byte ∷ [])
+FaultAt message byte (Some fault.Cut) = ⊥
+FaultAt message byte None = (length message < message_limit) × BeginMessage (message ++ byte ∷ [])
 
 -- the stop that a fault is in a decoder that has taken so many bytes, of which so many are unread
 abbrev pub stop_of : ℕ → ℕ → Fault → Stop

@@ -4,6 +4,7 @@ ghost use Rattle.ssap_decode.specs.Standing.{Stands, FeedStands, NextStands, End
 ghost use Rattle.ssap_decode.specs.Unfinished.{AreSpaces, stop_of};
 
 use crate::envelope::{envelope_of, whole_envelope};
+use crate::next_byte::fault_at;
 use crate::walk::{Halt, extend, walk};
 use crate::{Framed, MESSAGE_LIMIT, Stop};
 use ssap_machine::Stack;
@@ -90,8 +91,8 @@ impl Decoder {
 
     /// Takes bytes up to the end of the piece, the end of a message or the place of a stop, and answers how many.
     ///
-    /// While a message waits it takes none. A stop is answered when it stands at the next byte, and then for good. Want
-    /// of memory is answered with no byte taken, and leaves the decoder as it was.
+    /// While a message waits it takes none. A stop is answered when it stands at the next byte, and then for good.
+    /// `NoMemory` is answered only where none stands there, with no byte taken, and leaves the decoder as it was.
     pub fn feed(&mut self, alloc: Global, bytes: &[u8]) -> Result<usize, Stop>
         requires { self.old.taken + length bytes.now < 2 ^ 63 }
         ensures ok { IfOk result (λ count. Feeds self.old bytes.now count self.new) }
@@ -155,13 +156,13 @@ impl Decoder {
             });
             return Ok(count);
         }
+        if none_taken(count, bytes) {
+            return Err(self.stop(Fault::Syntax));
+        }
         self.message.extend_from_slice(part)?;
         self.stack = walked.stack;
         self.read = walked.count;
         self.taken += count as u64;
-        if none_taken(count, bytes) {
-            return Err(self.stop(Fault::Syntax));
-        }
         Ok(count)
     }
 
@@ -170,13 +171,16 @@ impl Decoder {
         requires room { self.old.taken + length bytes.now < 2 ^ 63 }
         requires idle { self.old.waiting ≡ None }
         requires sound { self.old.stopped ≡ None }
+        requires begun { 0 < length self.old.unread }
         ensures ok { IfOk result (λ count. Feeds self.old bytes.now count self.new) }
         ensures refused { IfErr result (Refuses self.old bytes.now self.new) }
     {
         let spaces = spaces_before(&self.message, bytes);
         let old = self.message.len();
         let piece = piece_of(old, &bytes[spaces..]);
-        let walked = extend(&mut self.message, &self.stack, self.read, piece)?;
+        let Ok(walked) = extend(&mut self.message, &self.stack, self.read, piece) else {
+            return Err(self.refuse(bytes));
+        };
         let length = self.message.len();
         if length > MESSAGE_LIMIT {
             self.message.truncate(old);
@@ -202,6 +206,23 @@ impl Decoder {
             return Err(self.stop(Fault::Syntax));
         }
         Ok(count)
+    }
+
+    /// What a call answers that is out of memory: the stop that stands at the next byte of the unfinished message, or
+    /// `NoMemory`.
+    fn refuse(&mut self, bytes: &[u8]) -> Stop
+        requires idle { self.old.waiting ≡ None }
+        requires sound { self.old.stopped ≡ None }
+        requires begun { 0 < length self.old.unread }
+        ensures { Refuses self.old bytes.now self.new result }
+    {
+        let Some(byte) = bytes.first() else {
+            return Stop::NoMemory;
+        };
+        match fault_at(&self.message, &self.stack, self.read, *byte) {
+            Some(fault) => self.stop(fault),
+            None => Stop::NoMemory,
+        }
     }
 
     /// Stops for good, and answers why.

@@ -4,6 +4,7 @@
 mod decoder;
 mod envelope;
 mod framed;
+mod next_byte;
 mod walk;
 
 pub use decoder::Decoder;
