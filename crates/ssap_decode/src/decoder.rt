@@ -42,7 +42,7 @@ impl Model for Decoder {
     ghost invariant = { λ d. IsKept d.message.items d.stack d.read d.taken };
 }
 
-/// How many bytes of white space stand in front: all of it where no byte of a message was read, else none.
+/// How many bytes of white space stand at the start: all of it where no byte of a message was read, else none.
 fn spaces_before(message: &[u8], bytes: &[u8]) -> usize
     ensures { AreSpaces message.now bytes.now result }
 {
@@ -89,7 +89,7 @@ impl Decoder {
         }
     }
 
-    /// Takes bytes up to the end of the piece, the end of a message or the place of a stop, and answers how many.
+    /// Takes bytes up to the end of the piece, the end of a message or the offset of a stop, and answers how many.
     ///
     /// While a message waits it takes none. A stop is answered when it stands at the next byte, and then for good.
     /// `NoMemory` is answered only where none stands there, with no byte taken, and leaves the decoder as it was.
@@ -275,115 +275,5 @@ impl Decoder {
         ensures stands { (read : List ℕ) (given : ℕ) → Stands self.now read given → result ≡ length read }
     {
         self.taken
-    }
-}
-
-#[cfg(test)]
-mod tests {
-    use super::*;
-    use std::process::Abort;
-    use std::test::Fail;
-
-    const MESSAGE: &[u8] =
-        b"<SSAP_message><message_type>REQUEST</message_type><transaction_type>JOIN</transaction_type><transaction_id>1</transaction_id><node_id>k</node_id><space_id>X</space_id></SSAP_message>";
-
-    /// Feeds a piece, notes where its messages begin and end, and answers the stop that it met.
-    fn feed_all(
-        rt: &impl Abort,
-        alloc: Global,
-        decoder: &mut Decoder,
-        piece: &[u8],
-        log: &mut Vec<u64>,
-    ) -> Result<Option<Stop>, Fail> {
-        let mut rest = piece;
-        for _ in 0..4 {
-            assert!(rt; decoder.taken() < 100_000_000 && rest.len() < 100_000_000);
-            match decoder.feed(alloc, rest) {
-                Ok(count) => {
-                    assert!(rt; count <= rest.len());
-                    rest = &rest[count..];
-                }
-                Err(stop) => return Ok(Some(stop)),
-            }
-            if let Some(framed) = decoder.next() {
-                log.push(framed.start)?;
-                log.push(framed.end)?;
-            }
-        }
-        assert!(rt; rest.is_empty());
-        Ok(None)
-    }
-
-    /// The places of the messages of bytes that come in pieces of so many, and how they end.
-    fn outcome(
-        rt: &impl Abort,
-        alloc: Global,
-        bytes: &[u8],
-        cut: usize,
-    ) -> Result<(Vec<u64>, Option<Stop>), Fail> {
-        let mut decoder = Decoder::new(alloc);
-        let mut log = Vec::new(alloc);
-        assert!(rt; cut > 0);
-        for piece in bytes.chunks(cut) {
-            let met = feed_all(rt, alloc, &mut decoder, piece, &mut log)?;
-            if met.is_some() {
-                return Ok((log, met));
-            }
-        }
-        Ok((log, decoder.end().err()))
-    }
-
-    #[test]
-    fn streams_in_any_cut(rt: HostRuntime) -> Result<(), Fail> {
-        let alloc = rt.alloc();
-        let mut two: Vec<u8> = Vec::new(alloc);
-        two.extend_from_slice(b" \n")?;
-        two.extend_from_slice(MESSAGE)?;
-        two.extend_from_slice(b"\r\n")?;
-        two.extend_from_slice(MESSAGE)?;
-        let long = MESSAGE.len() as u64;
-        for cut in [1, 7, 1000] {
-            let (log, stop) = outcome(&rt, alloc, &two, cut)?;
-            assert_eq!(rt;
-                log.as_slice(),
-                [2, 2 + long, 4 + long, 4 + 2 * long].as_slice(),
-                "cut {cut}"
-            );
-            assert_eq!(rt; stop, None, "cut {cut}");
-        }
-        let cases: [(&[u8], Option<Stop>); 7] = [
-            (b"", None),
-            (b" \t\r\n", None),
-            (b"<", Some(Stop::Cut { start: 0 })),
-            (b"  <?xml ", Some(Stop::Cut { start: 2 })),
-            (b"  <SSAP_messagf>", Some(Stop::Syntax { place: 14 })),
-            (b"x", Some(Stop::Syntax { place: 0 })),
-            (b"<SSAP_message>x", Some(Stop::Syntax { place: 14 })),
-        ];
-        for (bytes, wanted) in cases {
-            for cut in [1, 5, 100] {
-                let (log, stop) = outcome(&rt, alloc, bytes, cut)?;
-                assert!(rt; log.is_empty());
-                assert_eq!(rt; stop, wanted, "cut {cut}");
-            }
-        }
-        Ok(())
-    }
-
-    #[test]
-    fn the_limit(rt: HostRuntime) -> Result<(), Fail> {
-        let alloc = rt.alloc();
-        let mut log = Vec::new(alloc);
-        let mut bytes: Vec<u8> = Vec::new(alloc);
-        bytes.extend_from_slice(b"\n<SSAP_message")?;
-        bytes.resize(1 + MESSAGE_LIMIT, b' ')?;
-        let mut decoder = Decoder::new(alloc);
-        assert_eq!(rt; feed_all(&rt, alloc, &mut decoder, &bytes, &mut log)?, None);
-        assert_eq!(rt; decoder.taken(), 4_194_305);
-        let long = Some(Stop::TooLong { start: 1 });
-        assert_eq!(rt; feed_all(&rt, alloc, &mut decoder, b" ", &mut log)?, long);
-        assert_eq!(rt; feed_all(&rt, alloc, &mut decoder, b"x", &mut log)?, long);
-        assert_eq!(rt; decoder.end().err(), long);
-        Ok(())
     }
 }

@@ -18,7 +18,7 @@ pub(crate) fn envelope_of(alloc: Global, bytes: &[u8]) -> Result<Envelope, NoMem
     }
 }
 
-/// The envelope of a whole message, whose bytes are let go then; on want of memory all but the old ones are.
+/// The envelope of a whole message, whose bytes are let go then; out of memory, all but the old ones are.
 pub(crate) fn whole_envelope(
     alloc: Global,
     message: &mut Vec<u8>,

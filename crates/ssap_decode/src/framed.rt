@@ -9,7 +9,7 @@ use thiserror::Error;
 /// The most bytes that one message may have.
 pub const MESSAGE_LIMIT: usize = 4_194_304;
 
-/// A message of a stream: its first byte, the place behind its last one, both counted from 0, and what it says.
+/// A message of a stream: the offset of its first byte and that behind its last one, both counted from 0, and what it says.
 #[derive(Debug, Drop)]
 pub struct Framed {
     pub start: u64,
@@ -17,10 +17,10 @@ pub struct Framed {
     pub envelope: Envelope,
 }
 
-/// Why a decoder reads no further. Places count from 0 at the first byte.
+/// Why a decoder reads no further. Offsets count from 0 at the first byte.
 #[derive(Clone, Copy, Debug, PartialEq, Eq, Error)]
 pub enum Stop {
-    /// The bytes before `place` are the longest front that begins some stream.
+    /// The bytes before `place` are the longest prefix that begins some stream.
     #[error("no message goes on with byte {place}")]
     Syntax { place: u64 },
     /// The message that begins at `start` goes on above the limit.

@@ -47,7 +47,7 @@ pub(crate) fn walk(stack: &Stack, bytes: &[u8]) -> Walked
     }
 }
 
-/// Leads the machine along the bytes up to the place of a fault.
+/// Leads the machine along the bytes up to the offset of a fault.
 fn walk_up_to(stack: &Stack, bytes: &[u8], place: usize) -> Walked
     requires { Faults stack.now bytes.now place }
     ensures { Reads stack.now bytes.now result }

@@ -7,9 +7,9 @@ use Rattle.m3_terms.proofs.Lists.{heads_same, tails_same}
 use Rattle.ssap_machine.specs.Words.{Lexeme, Word, White, Except, finishing}
 use Rattle.ssap_items.specs.declared.tags.TagName.{TagName}
 use Rattle.ssap_machine.specs.declared.symbol.Words.TheVariants as word
-use Rattle.ssap_machine.specs.Options.{Choice, where_true, options}
+use Rattle.ssap_machine.specs.Options.{Choice, where_true, options, quote_of}
 use Rattle.ssap_machine.specs.declared.symbol.Words.{Words}
-use Rattle.ssap_machine.specs.declared.symbol.Symbol.TheVariants.{Next, Text}
+use Rattle.ssap_machine.specs.declared.symbol.Symbol.TheVariants.{Next, Text, Value}
 use Rattle.ssap_machine.specs.Machine.{IsAmong}
 use Rattle.ssap_machine.specs.Progress.{IsNoWord}
 use Rattle.ssap_machine.specs.Choosing.{common, pushed, offers, none_found, found, Finds, IsFrontOf, Tells}
@@ -325,6 +325,21 @@ text_finish name bytes finish count pushes e tells = (
   tells.0,
   elim tells.1 [
     | inl same ↦ inr (inl (same ∙ ap (λ (w : List ℕ). (Word w, Next word.Greater ∷ [])) e))
+    | inr among ↦ absurd among
+  ],
+  tells.2,
+  tells.3,
+  tells.4,
+)
+
+-- a quote that was found alone ends a value
+pub value_finish : (single : Bool) (bytes quote : List ℕ) (count : ℕ) (pushes : Pushes) → quote ≡ quote_of single ∷ []
+    → Tells ((Word quote, []) ∷ []) bytes (Whole count pushes) → Tells (options (Value single)) bytes (Whole count pushes)
+unfolding options
+value_finish single bytes quote count pushes e tells = (
+  tells.0,
+  elim tells.1 [
+    | inl same ↦ inr (inl (same ∙ ap (λ (w : List ℕ). (Word w, [])) e))
     | inr among ↦ absurd among
   ],
   tells.2,

@@ -1,23 +1,35 @@
 -- Which word of some candidates stands at the front of the bytes.
-use Rattle.std.specs.Prelude.{◌≡◌, ◌⊎◌, ℕ, ◌+◌, ◌<◌, ◌≤◌, ◌==◌, max, if◌then◌else◌, List, [], ◌∷◌, ◌++◌, length, take}
+use Rattle.std.specs.Prelude.{◌≡◌, ◌⊎◌, ℕ, ◌+◌, ◌<◌, ◌≤◌, ◌==◌, max, if◌then◌else◌, true, List, [], ◌∷◌, ◌++◌, length, take}
 use Rattle.ssap_machine.specs.Words.{Word}
 use Rattle.ssap_machine.specs.Options.{Choice, where_true, finishes, content}
 use Rattle.ssap_machine.specs.declared.symbol.Words.TheVariants as word
 use Rattle.ssap_machine.specs.Machine.{IsAmong}
 use Rattle.ssap_machine.specs.declared.symbol.Symbol.{Symbol}
-use Rattle.ssap_machine.specs.declared.symbol.Symbol.TheVariants.{Next, Spaced, DeclarationEnd, Open, Quote, Many}
+use Rattle.ssap_machine.specs.declared.symbol.Symbol.TheVariants.{Next, Spaced, DeclarationEnd, Items, Open, Quote, Many}
+use Rattle.ssap_items.specs.declared.tags.TagName.{TagName}
 use Rattle.ssap_items.specs.declared.tags.TagName.TheVariants as tag
+use Rattle.ssap_machine.specs.declared.symbol.Seen.{Seen}
 use Rattle.ssap_machine.specs.declared.choice.Pushes.{Pushes}
-use Rattle.ssap_machine.specs.declared.choice.Pushes.TheVariants.{Nothing, One, Two, Declaration, Encoding, Valued, Named, Listed, Within, Content}
+use Rattle.ssap_machine.specs.declared.choice.Pushes.TheVariants.{Nothing, One, Two, Header, Declaration, Encoding, Valued, Named, Listed, Within, Content}
 use Rattle.ssap_machine.specs.declared.choice.Candidate.{Candidate}
 use Rattle.ssap_machine.specs.declared.choice.Found.{Found}
 use Rattle.ssap_machine.specs.declared.choice.Found.TheVariants.{Whole, Half, Stuck}
+
+-- the headers that stand once this one does
+abbrev pub stood : TagName → Seen → Seen
+stood tag.MessageType seen = record seen { message_type = true }
+stood tag.TransactionType seen = record seen { transaction_type = true }
+stood tag.TransactionId seen = record seen { transaction_id = true }
+stood tag.NodeId seen = record seen { node_id = true }
+stood tag.SpaceId seen = record seen { space_id = true }
+stood name seen = seen
 
 -- the symbols that are pushed
 unfoldable pub pushed : Pushes → List Symbol
 pushed Nothing = []
 pushed (One symbol) = symbol ∷ []
 pushed (Two first second) = first ∷ second ∷ []
+pushed (Header name seen) = Open name ∷ Items (stood name seen) ∷ []
 pushed Declaration = Spaced word.Version ∷ Next word.Equals ∷ Next word.VersionNumber ∷ DeclarationEnd
     ∷ Next (word.Start tag.SsapMessage) ∷ Open tag.SsapMessage ∷ []
 pushed Encoding = Next word.Equals ∷ Next word.EncodingName ∷ Next word.DeclarationFinish ∷ []

@@ -1,5 +1,5 @@
-ghost use Rattle.std.specs.Prelude.{◌≡◌, true, false};
-ghost use Rattle.ssap_machine.specs.Options.{options, opened, all_seen, item};
+ghost use Rattle.std.specs.Prelude.{◌≡◌, ◌∷◌, [], true, false};
+ghost use Rattle.ssap_machine.specs.Options.{options, opened, all_seen, item, quote_of};
 ghost use Rattle.ssap_machine.specs.Choosing.{Tells, offer};
 
 use crate::choice::{Candidate, Found, Pushes, find};
@@ -32,21 +32,18 @@ macro_rules! words {
     };
 }
 
-/// The starting tag of a head that did not stand yet.
+/// The starting tag of a header that did not stand yet.
 macro_rules! head {
     ($seen:expr, $field:ident, $word:expr, $name:ident) => {
         word_if!(
             !$seen.$field,
             $word,
-            Pushes::Two(
-                Symbol::Open(TagName::$name),
-                Symbol::Items(Seen { $field: true, ..$seen })
-            )
+            Pushes::Header(TagName::$name, $seen)
         )
     };
 }
 
-/// Whether all heads stood.
+/// Whether all headers stood.
 fn is_complete(seen: Seen) -> bool
     ensures { result ≡ all_seen seen }
 {
@@ -76,6 +73,7 @@ macro_rules! with_references {
 }
 
 /// Finds one of the values of an element's one attribute.
+#[inline(never)]
 fn find_value(name: TagName, bytes: &[u8]) -> Found
     ensures { Tells (options (Symbol.Next (Words.Values name))) bytes.now result }
 {
@@ -199,7 +197,7 @@ fn find_item(list: TagName, bytes: &[u8]) -> Found
     find(&[finish, item_of(list)], bytes)
 }
 
-/// Finds a head that did not stand yet, a parameter, or the end of a message in which all heads stood.
+/// Finds a header that did not stand yet, a parameter, or the end of a message in which all headers stood.
 fn find_head(seen: Seen, bytes: &[u8]) -> Found
     ensures { Tells (options (Symbol.Items seen)) bytes.now result }
 {
@@ -304,8 +302,16 @@ fn find_parameter_attribute(named: bool, encoded: bool, bytes: &[u8]) -> Found
     )
 }
 
+/// The quote that ends a value.
+fn quote_word(single: bool) -> &'static [u8]
+    ensures { result.now ≡ quote_of single ∷ [] }
+{
+    if single { b"'" } else { b"\"" }
+}
+
 /// Finds a reference, or the quote that ends a value.
-fn find_in_value(single: bool, bytes: &[u8]) -> Found
+#[inline(never)]
+fn find_value_mark(single: bool, bytes: &[u8]) -> Found
     ensures { Tells (options (Symbol.Value single)) bytes.now result }
 {
     let after = Pushes::One(Symbol::Value { single });
@@ -322,7 +328,20 @@ fn find_in_value(single: bool, bytes: &[u8]) -> Found
     }
 }
 
+/// The same, with the quote first, which is the most frequent.
+fn find_in_value(single: bool, bytes: &[u8]) -> Found
+    ensures { Tells (options (Symbol.Value single)) bytes.now result }
+{
+    let quote = word!(quote_word(single), Pushes::Nothing);
+    match find(&[quote], bytes) {
+        Found::Whole { count, pushes } => Found::Whole { count, pushes },
+        Found::Half => find_value_mark(single, bytes),
+        Found::Stuck { .. } => find_value_mark(single, bytes),
+    }
+}
+
 /// Finds a reference, the start of a CDATA section, or the finishing tag of a text.
+#[inline(never)]
 fn find_mark(name: TagName, bytes: &[u8]) -> Found
     ensures { Tells (options (Symbol.Text name)) bytes.now result }
 {
@@ -350,6 +369,7 @@ fn find_in_text(name: TagName, bytes: &[u8]) -> Found
 }
 
 /// Finds what may stand in a parameter beside characters.
+#[inline(never)]
 fn find_in_parameter(bytes: &[u8]) -> Found
     ensures { Tells (options Symbol.Blank) bytes.now result }
 {
@@ -375,6 +395,7 @@ fn find_in_parameter(bytes: &[u8]) -> Found
 }
 
 /// Finds a bracket, or the end of a CDATA section behind two of them.
+#[inline(never)]
 fn find_in_section(brackets: Brackets, bytes: &[u8]) -> Found
     ensures { Tells (options (Symbol.Cdata brackets)) bytes.now result }
 {
@@ -412,6 +433,7 @@ fn find_term(bytes: &[u8]) -> Found
 }
 
 /// Finds a declaration, or the message's element.
+#[inline(never)]
 fn find_start(bytes: &[u8]) -> Found
     ensures { Tells (options Symbol.Message) bytes.now result }
 {
@@ -428,6 +450,7 @@ fn find_start(bytes: &[u8]) -> Found
 }
 
 /// Finds the end of a declaration, or its encoding where that is allowed.
+#[inline(never)]
 fn find_declaration_end(spaced: bool, bytes: &[u8]) -> Found
     ensures end { spaced ≡ false → Tells (options Symbol.DeclarationEnd) bytes.now result }
     ensures encoding { spaced ≡ true → Tells (options Symbol.DeclarationSpaced) bytes.now result }
@@ -454,7 +477,7 @@ fn find_quote(bytes: &[u8]) -> Found
     )
 }
 
-/// Finds which of the words that the symbol may begin with stands at the front of the bytes.
+/// Finds which of the words that the symbol may begin with stands at the start of the bytes.
 pub(crate) fn find_word(symbol: Symbol, bytes: &[u8]) -> Found
     ensures { Tells (options symbol) bytes.now result }
 {

@@ -3,14 +3,14 @@ ghost use Rattle.std.specs.List.{AllByRecursion};
 ghost use Rattle.m3_terms.specs.Text.{IsAllowed};
 ghost use Rattle.ssap_machine.specs.CharacterFronts.{Begun, IsSecondOfThree, IsThirdOfThree, IsSecondOfFour, IsLater};
 
-/// How an allowed character stands at the front of some bytes.
+/// How an allowed character stands at the start of some bytes.
 #[derive(Clone, Copy)]
 pub(crate) enum CharacterFront {
     /// A whole one, of so many bytes.
     Whole { count: usize },
-    /// The bytes are a front of one, and end before it does.
+    /// The bytes are a prefix of one, and end before it does.
     Half,
-    /// None goes on with the byte at this place.
+    /// None goes on with the byte at this offset.
     Stuck { place: usize },
 }
 
@@ -51,7 +51,7 @@ fn is_later(byte: u8) -> bool
     0x80 <= byte && byte <= 0xBF
 }
 
-/// The front of a character of two bytes.
+/// The start of a character of two bytes.
 fn two_bytes(bytes: &[u8]) -> CharacterFront
     requires some { 0 < length bytes.now }
     requires low { 0xC2 ≤ slice_index bytes.now 0 }
@@ -67,7 +67,7 @@ fn two_bytes(bytes: &[u8]) -> CharacterFront
     CharacterFront::Whole { count: 2 }
 }
 
-/// The front of a character of three bytes.
+/// The start of a character of three bytes.
 fn three_bytes(bytes: &[u8]) -> CharacterFront
     requires some { 0 < length bytes.now }
     requires low { 0xE0 ≤ slice_index bytes.now 0 }
@@ -89,7 +89,7 @@ fn three_bytes(bytes: &[u8]) -> CharacterFront
     CharacterFront::Whole { count: 3 }
 }
 
-/// The front of a character of four bytes.
+/// The start of a character of four bytes.
 fn four_bytes(bytes: &[u8]) -> CharacterFront
     requires some { 0 < length bytes.now }
     requires low { 0xF0 ≤ slice_index bytes.now 0 }
@@ -117,7 +117,7 @@ fn four_bytes(bytes: &[u8]) -> CharacterFront
     CharacterFront::Whole { count: 4 }
 }
 
-/// How an allowed character beyond ASCII stands at the front of the bytes.
+/// How an allowed character beyond ASCII stands at the start of the bytes.
 pub(crate) fn character_front(bytes: &[u8]) -> CharacterFront
     requires some { 0 < length bytes.now }
     requires high { 128 ≤ slice_index bytes.now 0 }

@@ -1,7 +1,7 @@
 ghost use Rattle.std.specs.Prelude.{◌≡◌, ◌≤◌, length};
 ghost use Rattle.ssap_machine.specs.Choosing.{common, Finds};
 
-use crate::Symbol;
+use crate::{Seen, Symbol};
 use ssap_items::TagName;
 
 /// The symbols that stand in the place of one, once its word was read.
@@ -10,6 +10,8 @@ pub(crate) enum Pushes {
     Nothing,
     One(Symbol),
     Two(Symbol, Symbol),
+    /// The rest of a header, and of the message in which it stands from then on.
+    Header(TagName, Seen),
     /// The rest of a declaration, and the message's element.
     Declaration,
     /// The rest of the encoding, and of its declaration.
@@ -34,19 +36,20 @@ pub(crate) struct Candidate<'a> {
     pub pushes: Pushes,
 }
 
-/// Which word stands at the front of the bytes.
+/// Which word stands at the start of the bytes.
 #[derive(Clone, Copy)]
 pub(crate) enum Found {
     /// A whole word, of so many bytes.
     Whole { count: usize, pushes: Pushes },
-    /// The bytes are a front of a word, and end before it does.
+    /// The bytes are a prefix of a word, and end before it does.
     Half,
-    /// No word goes on with the byte at this place.
+    /// No word goes on with the byte at this offset.
     Stuck { place: usize },
 }
 
 /// The length of the prefix that a word and the bytes have in common. Mostly the whole word stands there, so this is
 /// tested first, many bytes at once.
+#[inline(always)]
 fn common_front(word: &[u8], bytes: &[u8]) -> usize
     ensures { result ≡ common word.now bytes.now }
 {
@@ -62,7 +65,8 @@ fn common_front(word: &[u8], bytes: &[u8]) -> usize
     end
 }
 
-/// Finds which of the words stands at the front of the bytes.
+/// Finds which of the words stands at the start of the bytes.
+#[inline(always)]
 pub(crate) fn find(candidates: &[Candidate], bytes: &[u8]) -> Found
     ensures { Finds candidates.now bytes.now result }
 {

@@ -11,7 +11,7 @@ fn is_one_of(first: u8, second: u8, third: u8, byte: u8) -> bool
     byte == first || byte == second || byte == third
 }
 
-/// The offset of the first of three bytes, or the length. Where one stands in front it takes no search.
+/// The offset of the first of three bytes, or the length. Where one is the first byte it takes no search.
 fn run_end(first: u8, second: u8, third: u8, bytes: &[u8]) -> usize
     ensures within { result ≤ length bytes.now }
     ensures before { (k : ℕ) → k < result → ¬ (IsOneOf first second third (slice_index bytes.now k)) }

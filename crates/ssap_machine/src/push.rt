@@ -1,7 +1,7 @@
 ghost use Rattle.std.specs.Prelude.{◌≡◌, ◌∷◌, ◌++◌};
 ghost use Rattle.ssap_machine.specs.Options.{ends, finishes, content};
 ghost use Rattle.ssap_machine.specs.Heights.{Fits};
-ghost use Rattle.ssap_machine.specs.Choosing.{pushed};
+ghost use Rattle.ssap_machine.specs.Choosing.{pushed, stood};
 
 use crate::choice::Pushes;
 use crate::{Brackets, Seen, Stack, Symbol, Words};
@@ -142,6 +142,60 @@ fn push_listed(item: TagName, list: TagName, stack: &mut Stack)
     stack.push(Symbol::Spaced(Words::Name));
 }
 
+/// The headers that stand in a message once this one does.
+fn with_header(name: TagName, seen: Seen) -> Seen
+    ensures { result ≡ stood name seen }
+{
+    match name {
+        TagName::MessageType => Seen {
+            message_type: true,
+            ..seen
+        },
+        TagName::TransactionType => Seen {
+            transaction_type: true,
+            ..seen
+        },
+        TagName::TransactionId => Seen {
+            transaction_id: true,
+            ..seen
+        },
+        TagName::NodeId => Seen {
+            node_id: true,
+            ..seen
+        },
+        TagName::SpaceId => Seen {
+            space_id: true,
+            ..seen
+        },
+        TagName::Parameter
+        | TagName::TripleList
+        | TagName::Triple
+        | TagName::Subject
+        | TagName::Predicate
+        | TagName::Object
+        | TagName::Sparql
+        | TagName::Head
+        | TagName::Variable
+        | TagName::Results
+        | TagName::Result
+        | TagName::Binding
+        | TagName::Uri
+        | TagName::Literal
+        | TagName::Bnode
+        | TagName::SsapMessage => seen,
+    }
+}
+
+/// Pushes the rest of a header, and of the message in which it stands from then on.
+#[tactic(auto, unfolding(crate::specs::Choosing::pushed, crate::specs::Heights::need))]
+fn push_header(name: TagName, seen: Seen, stack: &mut Stack)
+    requires { Fits (pushed (Pushes.Header name seen) ++ stack.old) }
+    ensures { stack.new ≡ pushed (Pushes.Header name seen) ++ stack.old }
+{
+    stack.push(Symbol::Items(with_header(name, seen)));
+    stack.push(Symbol::Open(name));
+}
+
 impl Pushes {
     /// Pushes the symbols.
     #[tactic(auto, unfolding(crate::specs::Choosing::pushed, crate::specs::Heights::need))]
@@ -156,6 +210,7 @@ impl Pushes {
                 stack.push(second);
                 stack.push(first);
             }
+            Pushes::Header(name, seen) => push_header(name, seen, stack),
             Pushes::Declaration => push_declaration(stack),
             Pushes::Encoding => push_attribute(
                 Words::EncodingName,

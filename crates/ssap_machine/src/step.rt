@@ -18,7 +18,7 @@ pub(crate) enum Step {
     Taken { count: usize },
     /// The bytes end inside a lexeme, or there are none.
     Half,
-    /// No lexeme goes on with the byte at this place.
+    /// No lexeme goes on with the byte at this offset.
     Stuck { place: usize },
 }
 
@@ -174,7 +174,7 @@ fn step_section(brackets: Brackets, stack: &mut Stack, bytes: &[u8]) -> Step
     }
 }
 
-/// The length of the white space at the front of the bytes.
+/// The length of the white space at the start of the bytes.
 fn white_len(bytes: &[u8]) -> usize
     ensures within { result ≤ length bytes.now }
     ensures white { (k : ℕ) → k < result → IsWhite (slice_index bytes.now k) }
@@ -188,7 +188,7 @@ fn white_len(bytes: &[u8]) -> usize
     bytes.len()
 }
 
-/// What a byte of white space leaves of a symbol. None where the symbol may not begin with one.
+/// What a byte of white space leaves of a symbol. `None` where the symbol may not begin with one.
 #[tactic(auto, unfolding(crate::specs::Progress::white_next))]
 fn after_white(symbol: Symbol) -> Option<Symbol>
     ensures { result ≡ white_next symbol }

@@ -33,7 +33,7 @@ pub enum Words {
     Finish(TagName),
 }
 
-/// Which heads stood in a message.
+/// Which headers stood in a message.
 #[derive(Clone, Copy, Debug, PartialEq, Eq)]
 pub struct Seen {
     pub message_type: bool,
@@ -43,7 +43,7 @@ pub struct Seen {
     pub space_id: bool,
 }
 
-/// How many brackets `]` stand before the place in a CDATA section.
+/// How many brackets `]` stand before the next byte of a CDATA section.
 #[derive(Clone, Copy, Debug, PartialEq, Eq)]
 pub enum Brackets {
     None,
@@ -64,7 +64,7 @@ pub enum Symbol {
     DeclarationEnd,
     /// The same behind a byte of white space.
     DeclarationSpaced,
-    /// The items of a message in which these heads stood, and its end.
+    /// The items of a message in which these headers stood, and its end.
     Items(Seen),
     /// Behind an element's attributes: the end of its starting tag, and the rest of it.
     Open(TagName),

@@ -6,6 +6,7 @@ ghost use Rattle.ssap_read.specs.Tags.{ReadsTagEnd, ReadsOpen, ReadsPlainStart, 
 use ssap_text::skip_spaces;
 
 /// The bytes behind `<` and the name.
+#[inline(always)]
 pub fn open<'a>(name: &[u8], bytes: &'a [u8]) -> Option<&'a [u8]>
     ensures { Passed (ReadsOpen name.now) Whatever bytes.now result }
 {
@@ -13,6 +14,7 @@ pub fn open<'a>(name: &[u8], bytes: &'a [u8]) -> Option<&'a [u8]>
 }
 
 /// Whether a starting tag ends as that of an element that is closed there, and the bytes behind it.
+#[inline(always)]
 pub fn end_of_tag(bytes: &[u8]) -> Option<(bool, &[u8])>
     ensures { Told ReadsTagEnd Whatever bytes.now result }
 {
@@ -24,6 +26,7 @@ pub fn end_of_tag(bytes: &[u8]) -> Option<(bool, &[u8])>
 }
 
 /// The same of a whole starting tag without attributes.
+#[inline(always)]
 pub fn start<'a>(name: &[u8], bytes: &'a [u8]) -> Option<(bool, &'a [u8])>
     ensures { Told (ReadsPlainStart name.now) Whatever bytes.now result }
 {
@@ -31,6 +34,7 @@ pub fn start<'a>(name: &[u8], bytes: &'a [u8]) -> Option<(bool, &'a [u8])>
 }
 
 /// The bytes behind a finishing tag.
+#[inline(always)]
 fn finish<'a>(name: &[u8], bytes: &'a [u8]) -> Option<&'a [u8]>
     ensures { Passed (ReadsFinish name.now) Whatever bytes.now result }
 {
@@ -39,6 +43,7 @@ fn finish<'a>(name: &[u8], bytes: &'a [u8]) -> Option<&'a [u8]>
 }
 
 /// What was found as the content of an element, with the bytes behind its finishing tag. `None` where that is missing.
+#[inline(always)]
 pub fn finished<'a, T: Drop>(name: &[u8], found: Option<(T, &'a [u8])>) -> Option<(T, &'a [u8])>
     ensures { Finished name.now found.entry result }
 {

@@ -6,7 +6,7 @@ use m3_terms::{Items, NoMemory, Text};
 use ssap_items::{Envelope, Heads, MessageType, Params, Transaction};
 use std::alloc::Global;
 
-/// What was gathered of a message's pieces: each head once, and the parameters in their order.
+/// What was gathered of a message's pieces: each header once, and the parameters in their order.
 #[derive(Debug, Drop)]
 pub struct Gathered {
     message: Option<MessageType>,
@@ -44,7 +44,7 @@ impl Gathered {
         }
     }
 
-    /// Takes one more piece. False where it is a head that was taken before.
+    /// Takes one more piece. False where it is a header that was taken before.
     pub fn take(&mut self, piece: Piece) -> Result<bool, NoMemory>
         ensures { IfOk result (λ taken. Takes self.old (item_of piece) taken self.new) }
     {
@@ -61,7 +61,7 @@ impl Gathered {
         }
     }
 
-    /// The envelope of the pieces. `None` where a head is missing.
+    /// The envelope of the pieces. `None` where a header is missing.
     pub fn complete(self) -> Option<Envelope>
         ensures { Completes self result }
     {

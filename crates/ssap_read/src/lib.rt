@@ -14,6 +14,3 @@ mod text;
 mod triple;
 
 pub use message::read_envelope;
-
-#[cfg(test)]
-mod tests;

@@ -55,7 +55,7 @@ fn skip_declaration(bytes: &[u8]) -> &[u8]
     }
 }
 
-/// The envelope of the pieces up to a finishing tag. `None` also where a head is missing or stands twice.
+/// The envelope of the pieces up to a finishing tag. `None` also where a header is missing or stands twice.
 fn content<'a>(alloc: Global, bytes: &'a [u8]) -> Result<Option<(Envelope, &'a [u8])>, NoMemory>
     ensures { IfOk result (Told ReadsContent BeginsFinish bytes.now) }
 {

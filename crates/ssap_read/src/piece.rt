@@ -8,7 +8,7 @@ use m3_terms::{NoMemory, Text};
 use ssap_items::{MessageType, Param, Transaction};
 use std::alloc::Global;
 
-/// A piece of a message: one of the five heads, or a parameter.
+/// A piece of a message: one of the five headers, or a parameter.
 #[derive(Debug, Drop)]
 pub enum Piece {
     MessageType(MessageType),

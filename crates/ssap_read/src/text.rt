@@ -22,6 +22,7 @@ pub fn no_text(alloc: Global) -> Result<Text, NoMemory>
 }
 
 /// The text that is the content of an element, with the bytes behind its finishing tag.
+#[inline(always)]
 pub fn text_in<'a>(
     alloc: Global,
     name: &[u8],
@@ -37,6 +38,7 @@ pub fn text_in<'a>(
 }
 
 /// The text in an element of this name without attributes.
+#[inline(always)]
 pub fn text_element<'a>(
     alloc: Global,
     name: &[u8],

@@ -13,7 +13,7 @@ pub enum End {
 }
 
 impl End {
-    /// The place of the first byte that is no part of a plain character: `<`, `&`, or the quote.
+    /// The offset of the first byte that is no part of a plain character: `<`, `&`, or the quote.
     pub fn first_mark(self, bytes: &[u8]) -> Option<usize>
         ensures { IsFirstByte (is_mark self) bytes.now result }
     {
@@ -24,7 +24,7 @@ impl End {
         }
     }
 
-    /// Whether the end stands at the front.
+    /// Whether the end stands at the start.
     pub fn begins(self, bytes: &[u8]) -> bool
         ensures { IsTrue result ↔ Follows self bytes.now }
     {

@@ -1,4 +1,4 @@
-//! Reads white space, texts and the values of attributes at the front of bytes, exactly by the grammar of SSAP messages.
+//! Reads white space, texts and the values of attributes at the start of bytes, exactly by the grammar of SSAP messages.
 #![tactic(auto)]
 
 mod bytes;
@@ -12,6 +12,3 @@ mod values;
 pub use spaces::skip_spaces;
 pub use texts::read_text;
 pub use values::read_attvalue;
-
-#[cfg(test)]
-mod tests;

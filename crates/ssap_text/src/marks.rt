@@ -18,7 +18,7 @@ const REFERENCES: [(&[u8], &[u8]); 8] = [
     (b"&#13;", b"\r"),
 ];
 
-/// The value that stands in the table beside the word at the front, and the bytes behind the word.
+/// The value that stands in the table beside the word at the start, and the bytes behind the word.
 fn one_of<'a>(table: &[(&'a [u8], &'a [u8])], bytes: &'a [u8]) -> Option<(&'a [u8], &'a [u8])>
     ensures found { IfSome result (λ p. OneOf (words table.now) p.0.now bytes.now p.1.now) }
     ensures none { IfNone result ((value rest : List ℕ) → ¬ (OneOf (words table.now) value bytes.now rest)) }
@@ -31,7 +31,7 @@ fn one_of<'a>(table: &[(&'a [u8], &'a [u8])], bytes: &'a [u8]) -> Option<(&'a [u
     None
 }
 
-/// The character that the reference at the front stands for, and the bytes behind the reference.
+/// The character that the reference at the start stands for, and the bytes behind the reference.
 pub fn reference(bytes: &[u8]) -> Option<(&[u8], &[u8])>
     ensures found { IfSome result (λ p. OneOf references p.0.now bytes.now p.1.now) }
     ensures none { IfNone result ((value rest : List ℕ) → ¬ (OneOf references value bytes.now rest)) }
@@ -39,7 +39,7 @@ pub fn reference(bytes: &[u8]) -> Option<(&[u8], &[u8])>
     one_of(&REFERENCES, bytes)
 }
 
-/// The content of the CDATA section at the front, and the bytes behind the section.
+/// The content of the CDATA section at the start, and the bytes behind the section.
 pub fn section(bytes: &[u8]) -> Option<(&[u8], &[u8])>
     ensures found { IfSome result (λ p. ReadsSection p.0.now bytes.now p.1.now) }
     ensures none { IfNone result ((value rest : List ℕ) → ¬ (ReadsSection value bytes.now rest)) }

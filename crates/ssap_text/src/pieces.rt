@@ -7,7 +7,7 @@ use crate::marks::{reference, section};
 use m3_terms::{NoMemory, Text};
 use std::alloc::Global;
 
-/// The value of the reference or the CDATA section at the front, and the bytes behind it.
+/// The value of the reference or the CDATA section at the start, and the bytes behind it.
 fn marked(end: End, bytes: &[u8]) -> Option<(&[u8], &[u8])>
     ensures found { IfSome result (λ p. ReadsMarked end p.0.now bytes.now p.1.now) }
     ensures none { IfNone result ((value rest : List ℕ) → ¬ (ReadsMarked end value bytes.now rest)) }
@@ -21,7 +21,7 @@ fn marked(end: End, bytes: &[u8]) -> Option<(&[u8], &[u8])>
     }
 }
 
-/// The value of the run of plain characters, the reference or the CDATA section at the front, and the bytes behind it.
+/// The value of the run of plain characters, the reference or the CDATA section at the start, and the bytes behind it.
 fn part(end: End, bytes: &[u8]) -> Option<(&[u8], &[u8])>
     requires { ¬ (Follows end bytes.now) }
     ensures found { IfSome result (λ p. Reads end p.0.now bytes.now p.1.now) }
@@ -40,7 +40,7 @@ fn part(end: End, bytes: &[u8]) -> Option<(&[u8], &[u8])>
     }
 }
 
-/// The values of the parts at the front one behind the other, up to the end, and the bytes from the end on.
+/// The values of the parts at the start one behind the other, up to the end, and the bytes from the end on.
 fn parts<'a>(
     alloc: Global,
     end: End,
@@ -61,7 +61,7 @@ fn parts<'a>(
     Ok(Some((values, rest)))
 }
 
-/// The text at the front, up to the end, and the bytes from the end on. One run of plain characters is copied once.
+/// The text at the start, up to the end, and the bytes from the end on. One run of plain characters is copied once.
 pub fn read_up_to<'a>(
     alloc: Global,
     end: End,

@@ -9,7 +9,7 @@ fn is_space(byte: u8) -> bool
     matches!(byte, b' ' | b'\t' | b'\r' | b'\n')
 }
 
-/// The bytes behind the white space at the front: spaces, tabs, carriage returns and line feeds.
+/// The bytes behind the white space at the start: spaces, tabs, carriage returns and line feeds.
 pub fn skip_spaces(bytes: &[u8]) -> &[u8]
     ensures spaces { Spaces bytes.now result.now }
     ensures stops { NoWhite result.now }

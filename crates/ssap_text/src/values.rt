@@ -8,7 +8,7 @@ use crate::pieces::read_up_to;
 use m3_terms::{NoMemory, Text};
 use std::alloc::Global;
 
-/// What ends the value that the quote at the front opens, and the bytes behind the quote.
+/// What ends the value that the quote at the start opens, and the bytes behind the quote.
 fn opened(bytes: &[u8]) -> Option<(End, &[u8])>
     ensures found { IfSome result (λ p. Opens p.0 bytes.now p.1.now) }
     ensures none { IfNone result ((end : End) (inner : List ℕ) → ¬ (Opens end bytes.now inner)) }
@@ -20,9 +20,9 @@ fn opened(bytes: &[u8]) -> Option<(End, &[u8])>
     }
 }
 
-/// The value of an attribute at the front, in either quote, and the bytes behind it.
+/// The value of an attribute at the start, in either quote, and the bytes behind it.
 ///
-/// References stand for their characters. `None` where no value stands at the front: it may hold neither `<` nor its
+/// References stand for their characters. `None` where no value stands at the start: it may hold neither `<` nor its
 /// quote.
 pub fn read_attvalue<'a>(
     alloc: Global,

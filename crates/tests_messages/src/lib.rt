@@ -2,4 +2,12 @@
 #![tactic(auto)]
 
 #[cfg(test)]
+mod decoding;
+#[cfg(test)]
 mod items;
+#[cfg(test)]
+mod machine;
+#[cfg(test)]
+mod reading;
+#[cfg(test)]
+mod text;

@@ -1,5 +1,5 @@
 use Rattle.std.proofs.Common.{◌≤◌}
-use Rattle.ssap_machine.proofs.progress.tests.read_bytewise.Given as goal
+use Rattle.tests_messages.proofs.machine.read_bytewise.Given as goal
 
 -- what is done has been fed
 abbrev pub invariant-loop-end : goal.invariant-loop-end
