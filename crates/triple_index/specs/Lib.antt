@@ -1,0 +1,6 @@
+pub mod IdOrder
+pub mod Fits
+pub mod Graphs
+pub mod Changes
+pub mod Sides
+pub mod Parts
