@@ -4,3 +4,5 @@ pub mod Graphs
 pub mod Changes
 pub mod Sides
 pub mod Parts
+pub mod IdOrderLaws
+pub mod GraphLaws

@@ -1,5 +1,5 @@
 //! Triples in one ordered list: search, and changes in place.
-ghost use Rattle.std.specs.Prelude.{◌≡◌, ◌≤◌, ◌+◌, ◌-◌, Contains, length, filter, take, vec_len, vec_capacity};
+ghost use Rattle.std.specs.Prelude.{◌≡◌, ◌≤◌, ◌+◌, ◌-◌, ◌∷◌, List, Contains, MatchOption, length, filter, take, vec_len, vec_capacity};
 ghost use Rattle.triple_index.specs.Changes.{AreOrdered};
 ghost use Rattle.triple_index.specs.Fits.{fits};
 ghost use Rattle.triple_index.specs.Graphs.{fits_one, without, with_all};
@@ -52,6 +52,14 @@ pub(crate) fn range<'a>(triples: &'a [IdTriple], mask: &IdPattern) -> &'a [IdTri
     rest.split_at(end).0
 }
 
+// What comes behind the first triple, where that is this one.
+fn rest_behind<'a>(triples: &'a [IdTriple], first: &IdTriple) -> Option<&'a [IdTriple]>
+    ensures { MatchOption result ((rest : List IdTriple) → triples.now ≡ first.now ∷ rest → ⊥) (λ rest. triples.now ≡ first.now ∷ rest.now) }
+{
+    let (head, rest) = triples.split_first()?;
+    if head == first { Some(rest) } else { None }
+}
+
 /// Takes triples out, which are in order and are there. What stays moves up.
 pub(crate) fn close_up(triples: &mut Vec<IdTriple>, removed: &[IdTriple])
     requires ordered { AreOrdered triples.old.items }
@@ -61,19 +69,20 @@ pub(crate) fn close_up(triples: &mut Vec<IdTriple>, removed: &[IdTriple])
     ensures len { vec_len triples.new ≤ vec_len triples.old }
     ensures capacity { vec_capacity triples.new ≡ vec_capacity triples.old }
 {
-    let Some(first) = removed.first() else {
+    let Some((first, _)) = removed.split_first() else {
         return;
     };
     let start = triples.partition_point(|triple| triple < first);
     let mut kept = start;
-    let mut next = 0;
+    let mut left = removed;
     for at in start..triples.len() {
         let triple = triples[at];
-        if next < removed.len() && removed[next] == triple {
-            next += 1;
-        } else {
-            triples[kept] = triple;
-            kept += 1;
+        match rest_behind(left, &triple) {
+            Some(rest) => left = rest,
+            None => {
+                triples[kept] = triple;
+                kept += 1;
+            }
         }
     }
     triples.truncate(kept);

@@ -1,0 +1,5 @@
+pub mod Searches
+pub mod Ranges
+pub mod Nets
+pub mod Closing
+-- pub mod Merging
