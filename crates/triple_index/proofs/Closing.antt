@@ -36,7 +36,7 @@ pub record IsClosing (old now removed left : List IdTriple) (kept at : ℕ) : Ty
   pub coming : left ≡ filter (goes removed) (drop at old)
 
 -- a test that passes everywhere keeps all
-all_kept : {X : Type 0} (test : X → Bool) (xs : List X) → All (λ x. test x ≡ true) xs → filter test xs ≡ xs
+pub all_kept : {X : Type 0} (test : X → Bool) (xs : List X) → All (λ x. test x ≡ true) xs → filter test xs ≡ xs
 all_kept test [] h = refl
 all_kept test (x ∷ xs) h = rw (All-head (λ x. test x ≡ true) x xs h) (ap (λ l. x ∷ l) (all_kept test xs (All-tail (λ x. test x ≡ true) x xs h)))
 

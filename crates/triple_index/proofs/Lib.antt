@@ -2,4 +2,4 @@ pub mod Searches
 pub mod Ranges
 pub mod Nets
 pub mod Closing
--- pub mod Merging
+pub mod Merging

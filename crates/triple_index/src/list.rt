@@ -1,5 +1,5 @@
 //! Triples in one ordered list: search, and changes in place.
-ghost use Rattle.std.specs.Prelude.{◌≡◌, ◌≤◌, ◌+◌, ◌-◌, ◌∷◌, List, Contains, MatchOption, length, filter, take, vec_len, vec_capacity};
+ghost use Rattle.std.specs.Prelude.{◌≡◌, ◌≤◌, ◌+◌, ◌-◌, ◌∷◌, List, Contains, MatchOption, IsTrue, ◌↔◌, ◌<◌, slice_index_or, length, filter, take, vec_len, vec_capacity};
 ghost use Rattle.triple_index.specs.Changes.{AreOrdered};
 ghost use Rattle.triple_index.specs.Fits.{fits};
 ghost use Rattle.triple_index.specs.Graphs.{fits_one, without, with_all};
@@ -104,6 +104,14 @@ pub(crate) fn merge(triples: &mut Vec<IdTriple>, inserted: &[IdTriple])
     merge_from_end(triples.as_mut_slice(), inserted);
 }
 
+// Whether a triple comes before the last of the first `left` triples.
+fn comes_before(triple: &IdTriple, triples: &[IdTriple], left: usize) -> bool
+    requires { left ≤ length triples.now }
+    ensures { IsTrue result ↔ ((0 < left) × (id_triple_cmp triple.now (slice_index_or triples.now (left - 1) triple.now) ≡ Ordering.Less)) }
+{
+    0 < left && *triple < triples[left - 1]
+}
+
 // Merges triples in order into those in order that stand before as many places at the end.
 fn merge_from_end(triples: &mut [IdTriple], inserted: &[IdTriple])
     requires ordered { AreOrdered (take (length triples.old - length inserted.now) triples.old) }
@@ -116,7 +124,7 @@ fn merge_from_end(triples: &mut [IdTriple], inserted: &[IdTriple])
     let mut left = triples.len() - right;
     while 0 < right {
         let last = inserted[right - 1];
-        if 0 < left && last < triples[left - 1] {
+        if comes_before(&last, triples, left) {
             triples[left + right - 1] = triples[left - 1];
             left -= 1;
         } else {
