@@ -3,3 +3,4 @@ pub mod Ranges
 pub mod Nets
 pub mod Closing
 pub mod Merging
+pub mod Rows

@@ -4,5 +4,6 @@ pub mod Graphs
 pub mod Changes
 pub mod Sides
 pub mod Parts
+pub mod Rows
 pub mod IdOrderLaws
 pub mod GraphLaws

@@ -99,7 +99,7 @@ fn fresh(index: &Index, mut triples: Vec<IdTriple>) -> Vec<IdTriple>
     ensures ordered { AreOrdered result.items }
     ensures fresh { IsTaken triples.items index.now.triples result.items }
 {
-    triples.retain(|triple| !index.contains(triple));
+    triples.retain(|triple| index.lacks(triple));
     triples
 }
 

@@ -1,9 +1,12 @@
 //! Views of a graph, of which each row that is read is counted.
-ghost use Rattle.std.specs.Prelude.{◌≡◌, ◌+◌, ◌∷◌, [], MatchOption, filter, length};
+ghost use Rattle.std.specs.Prelude.{◌≡◌, ◌+◌, ◌∷◌, [], ◌&&◌, not, MatchOption, filter, length};
 ghost use Rattle.std.specs.List.Sorted.{IsPermutation};
 ghost use Rattle.std.specs.Option.{option_to_list};
-ghost use Rattle.triple_index.specs.Changes.{IsNet, changed};
+ghost use Rattle.triple_index.specs.Changes.{AreOrdered, IsNet, changed};
 ghost use Rattle.triple_index.specs.Fits.{fits};
+ghost use Rattle.triple_index.specs.Graphs.{fits_one};
+ghost use Rattle.triple_index.specs.IdOrder.{id_triple_eq};
+ghost use Rattle.triple_index.specs.Rows.{rows_of};
 
 use crate::list::{is_among, range};
 use crate::{Change, IdPattern, IdTriple, Index};
@@ -86,13 +89,12 @@ impl<'a, L: Ledger> Model for RowsOf<'a, L> {
     ghost use Rattle.std.specs.Prelude.{List, ◌++◌, filter};
     ghost use Rattle.triple_index.specs.Changes.{AreOrdered};
     ghost use Rattle.triple_index.specs.Fits.{fits};
-    ghost use Rattle.triple_index.specs.Graphs.{without};
-    ghost use Rattle.triple_index.specs.IdOrder.{id_triple_eq};
+    ghost use Rattle.triple_index.specs.Rows.{rows_of};
     ghost use Rattle.triple_index.specs.declared.triple.IdTriple.{IdTriple as SeenTriple};
 
     ghost Value = { List SeenTriple };
 
-    ghost view = { λ r. without id_triple_eq (filter (fits r.mask) r.kept.now) r.removed.now ++ filter (fits r.mask) r.inserted.now };
+    ghost view = { λ r. rows_of r.mask r.kept.now r.removed.now ++ filter (fits r.mask) r.inserted.now };
 
     ghost invariant = { λ r. AreOrdered r.removed.now };
 }
@@ -114,18 +116,41 @@ impl<'a, L: Ledger> RowsOf<'a, L> {
     fn find(&mut self) -> Option<IdTriple>
         ensures { MatchOption result ((self.old ≡ []) × (self.new ≡ [])) (λ triple. self.old ≡ triple ∷ self.new) }
     {
-        while let Some((first, rest)) = self.kept.split_first() {
+        if let Some((row, rest)) = first_row(&self.mask, self.kept, self.removed) {
             self.kept = rest;
-            if self.mask.fits(first) && !is_among(self.removed, first) {
-                return Some(*first);
-            }
+            return Some(row);
         }
-        while let Some((first, rest)) = self.inserted.split_first() {
+        self.kept = &[];
+        if let Some((row, rest)) = first_row(&self.mask, self.inserted, &[]) {
             self.inserted = rest;
-            if self.mask.fits(first) {
-                return Some(*first);
-            }
+            return Some(row);
         }
+        self.inserted = &[];
         None
     }
+}
+
+// Whether a triple fits the mask and is not removed.
+fn is_row(mask: &IdPattern, triple: &IdTriple, removed: &[IdTriple]) -> bool
+    requires { AreOrdered removed.now }
+    ensures { result ≡ (fits mask.now triple.now && not (fits_one id_triple_eq removed.now triple.now)) }
+{
+    mask.fits(triple) && !is_among(removed, triple)
+}
+
+// The first of the triples that fits the mask and is not removed, and what comes behind it.
+fn first_row<'a>(
+    mask: &IdPattern,
+    triples: &'a [IdTriple],
+    removed: &[IdTriple],
+) -> Option<(IdTriple, &'a [IdTriple])>
+    requires { AreOrdered removed.now }
+    ensures { MatchOption result (rows_of mask.now triples.now removed.now ≡ []) (λ found. rows_of mask.now triples.now removed.now ≡ found.0 ∷ rows_of mask.now found.1.now removed.now) }
+{
+    for (at, triple) in triples.iter().enumerate() {
+        if is_row(mask, triple, removed) {
+            return Some((*triple, triples.split_at(at + 1).1));
+        }
+    }
+    None
 }
