@@ -1,7 +1,7 @@
 -- The rows of a view: what fits of the triples that stay, and then what fits of those that are inserted.
 use Rattle.std.proofs.Common.{◌≡◌, ℕ, ◌+◌, ◌<◌, ◌⊎◌, Bool, true, false, ◌&&◌, not, cond, List, [], ◌∷◌, ◌++◌, length, get_or, take, drop, filter, Contains, Option, None, Some, MatchOption, refl, sym, ap, subst, ◌∙◌, inl, inr, arith}
 use Rattle.std.proofs.lemmas.List.{drop_more, append-nil}
-use Rattle.std.proofs.lemmas.List.Elements.{All-contains, All-head, All-tail, filter_passes, filter-append}
+use Rattle.std.proofs.lemmas.List.Elements.{All-contains, All-head, All-tail}
 use Rattle.std.proofs.lemmas.List.Kept.{IsStrictlySortedBy-filter}
 use Rattle.std.proofs.lemmas.List.Sorted.{IsPermutation-refl, IsPermutation-sym, IsPermutation-trans, IsPermutation-cons, IsPermutation-middle, IsPermutation-append_left, IsPermutation-filter_both}
 use Rattle.std.proofs.lemmas.Map.Keys.{sorted_tail}
@@ -27,6 +27,7 @@ use Rattle.triple_index.specs.declared.triple.IdTriple.{IdTriple}
 use Rattle.triple_index.specs.declared.triple.IdPattern.{IdPattern}
 use Rattle.triple_index.proofs.Closing.{all_kept}
 use Rattle.triple_index.proofs.Merging.{All-from_contains}
+use Rattle.triple_index.proofs.Nets.{kept_passes}
 
 -- ---- one row after another
 
@@ -63,6 +64,20 @@ row_passed mask triples removed at x b within read is h =
 pub rows_all : (mask : IdPattern) (triples : List IdTriple) → rows_of mask triples [] ≡ filter (fits mask) triples
 rows_all mask triples = all_kept (λ t. not (fits_one id_triple_eq [] t)) (filter (fits mask) triples) (λ k d below. refl)
 
+-- once what stays is handed out, the next row is one of the inserted
+pub next_inserted : (mask : IdPattern) (kept removed inserted rest all : List IdTriple) (row : IdTriple)
+    → rows_of mask kept removed ++ filter (fits mask) inserted ≡ all → rows_of mask kept removed ≡ []
+    → rows_of mask inserted [] ≡ row ∷ rows_of mask rest [] → all ≡ row ∷ filter (fits mask) rest
+next_inserted mask kept removed inserted rest all row seen none found =
+    sym seen ∙ ap (λ l. l ++ filter (fits mask) inserted) none ∙ sym (rows_all mask inserted) ∙ found ∙ ap (λ l. row ∷ l) (rows_all mask rest)
+
+-- and once these are handed out too, no row is left
+pub none_left : (mask : IdPattern) (kept removed inserted all : List IdTriple)
+    → rows_of mask kept removed ++ filter (fits mask) inserted ≡ all → rows_of mask kept removed ≡ []
+    → rows_of mask inserted [] ≡ [] → all ≡ []
+none_left mask kept removed inserted all seen none found =
+    sym seen ∙ ap (λ l. l ++ filter (fits mask) inserted) none ∙ sym (rows_all mask inserted) ∙ found
+
 -- ---- all rows
 
 -- two tests keep the same in either order
@@ -84,10 +99,6 @@ agree p q (x ∷ xs) h =
     let head : p x ≡ q x = All-head (λ x. p x ≡ q x) x xs h in
     let rest : filter p xs ≡ filter q xs = agree p q xs (All-tail (λ x. p x ≡ q x) x xs h) in
     ap (λ b. cond b (x ∷ filter p xs) (filter p xs)) head ∙ ap (λ l. cond (q x) (x ∷ l) l) rest
-
--- what a test keeps passes it
-kept_passes : {X : Type 0} (test : X → Bool) (xs : List X) (q : X) → Contains (filter test xs) q → test q ≡ true
-kept_passes test xs q c = All-contains (λ x. test x ≡ true) (filter test xs) q (filter_passes test xs) c
 
 module _ {K : Type 0} {R : K → K → Ordering} (o : IsTotalOrder R) (exact : CmpEqualImpliesEq R) where
   -- what a test keeps of a graph with items is what it keeps of the graph, with what it keeps of the items

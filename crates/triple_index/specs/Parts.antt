@@ -10,8 +10,8 @@ abbrev pub HasSame : List IdTriple → List IdTriple → Type 0
 HasSame triples other = (t : IdTriple) → Contains other t ↔ Contains triples t
 
 -- these are the triples that are not among others
-abbrev pub IsTaken : List IdTriple → List IdTriple → List IdTriple → Type 0
-IsTaken triples others left = (t : IdTriple) → Contains left t ↔ (Contains triples t × (Contains others t → ⊥))
+abbrev pub IsRest : List IdTriple → List IdTriple → List IdTriple → Type 0
+IsRest triples others left = (t : IdTriple) → Contains left t ↔ (Contains triples t × (Contains others t → ⊥))
 
 -- these are the triples of the graph that fit a pattern
 abbrev pub HasFitting : List IdTriple → List IdPattern → List IdTriple → Type 0

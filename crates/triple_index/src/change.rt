@@ -4,7 +4,7 @@ ghost use Rattle.triple_index.specs.Changes.{AreOrdered, IsNet, changed};
 ghost use Rattle.triple_index.specs.Fits.{fits};
 ghost use Rattle.triple_index.specs.Graphs.{after, count_fitting};
 ghost use Rattle.triple_index.specs.IdOrder.{id_triple_cmp};
-ghost use Rattle.triple_index.specs.Parts.{HasFitting, HasSame, IsTaken};
+ghost use Rattle.triple_index.specs.Parts.{HasFitting, HasSame, IsRest};
 
 use crate::list::is_among;
 use crate::{IdPattern, IdPatterns, IdTriple, IdTriples, Index, RowsOf, View};
@@ -47,8 +47,8 @@ impl Change {
     {
         let wanted = in_order(Vec::from_slice(alloc, insert.as_slice())?);
         let read = read_fitting(alloc, index, remove.as_slice(), steps)?;
-        let removed = taken(in_order(read), wanted.as_slice());
-        let inserted = fresh(index, wanted);
+        let removed = rest_of(in_order(read), wanted.as_slice());
+        let inserted = rest_of(wanted, index.as_slice());
         Ok(Change {
             removed: Items::from_vec(removed),
             inserted: Items::from_vec(inserted),
@@ -82,24 +82,14 @@ fn in_order(mut triples: Vec<IdTriple>) -> Vec<IdTriple>
     triples
 }
 
-// Those of the triples that are not wanted.
-fn taken(mut triples: Vec<IdTriple>, wanted: &[IdTriple]) -> Vec<IdTriple>
+// Those of the triples that are not among others.
+fn rest_of(mut triples: Vec<IdTriple>, others: &[IdTriple]) -> Vec<IdTriple>
     requires ordered { AreOrdered triples.items }
-    requires wanted_ordered { AreOrdered wanted.now }
+    requires others_ordered { AreOrdered others.now }
     ensures ordered { AreOrdered result.items }
-    ensures taken { IsTaken triples.items wanted.now result.items }
+    ensures rest { IsRest triples.items others.now result.items }
 {
-    triples.retain(|triple| !is_among(wanted, triple));
-    triples
-}
-
-// Those of the triples that are not in the graph.
-fn fresh(index: &Index, mut triples: Vec<IdTriple>) -> Vec<IdTriple>
-    requires { AreOrdered triples.items }
-    ensures ordered { AreOrdered result.items }
-    ensures fresh { IsTaken triples.items index.now.triples result.items }
-{
-    triples.retain(|triple| index.lacks(triple));
+    triples.retain(|triple| !is_among(others, triple));
     triples
 }
 

@@ -1,9 +1,7 @@
 //! The triples of a graph.
-ghost use Rattle.std.specs.Prelude.{◌≡◌, ◌≤◌, ◌+◌, [], ◌↔◌, IsTrue, OnOk, OnErr, Contains, not, length, filter};
+ghost use Rattle.std.specs.Prelude.{◌≡◌, ◌≤◌, ◌+◌, [], ◌↔◌, IsTrue, OnOk, OnErr, Contains, length, filter};
 ghost use Rattle.triple_index.specs.Changes.{AreOrdered, IsNet, changed};
 ghost use Rattle.triple_index.specs.Fits.{fits};
-ghost use Rattle.triple_index.specs.Graphs.{fits_one};
-ghost use Rattle.triple_index.specs.IdOrder.{id_triple_eq};
 
 use crate::list::{close_up, is_among, merge, range};
 use crate::{Change, IdPattern, IdTriple};
@@ -53,13 +51,6 @@ impl Index {
         is_among(self.triples.as_slice(), triple)
     }
 
-    /// Whether the triple is not in the graph.
-    pub(crate) fn lacks(&self, triple: &IdTriple) -> bool
-        ensures { result ≡ not (fits_one id_triple_eq self.now.triples triple.now) }
-    {
-        !self.contains(triple)
-    }
-
     /// Makes room for `more` triples beyond those that are here.
     pub fn reserve(&mut self, more: usize) -> Result<(), NoMemory>
         ensures triples { self.new.triples ≡ self.old.triples }
@@ -79,6 +70,14 @@ impl Index {
     {
         close_up(&mut self.triples, change.removed().as_slice());
         merge(&mut self.triples, change.inserted().as_slice());
+    }
+
+    /// The triples in order, each once.
+    pub(crate) fn as_slice(&self) -> &[IdTriple]
+        ensures triples { result.now ≡ self.now.triples }
+        ensures ordered { AreOrdered self.now.triples }
+    {
+        self.triples.as_slice()
     }
 
     /// Triples in order, each once, among which are all that fit the mask.

@@ -31,4 +31,4 @@ pub invariant_of-self : goal.invariant_of-self
 invariant_of-self c =
     let ordered = subst AreOrdered (sym c.close_up.ensures.items)
     (IsStrictlySortedBy-filter id_triple_cmp (stays c.as_slice.result.now) c.self.inside.triples.items c.self.invariant) in
-    subst AreOrdered (sym c.merge.ensures.items) (with_all_ordered id_triple_cmp_total id_triple_one _ _ ordered)
+    subst AreOrdered (sym c.merge.ensures.items) (with_all_ordered id_triple_cmp_total id_triple_one c.close_up.new.triples.items c.as_slice-2.result.now ordered)
