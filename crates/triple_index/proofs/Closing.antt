@@ -1,7 +1,6 @@
 -- Triples taken out of a list in place.
-use Rattle.std.proofs.Common.{◌≡◌, ℕ, ◌+◌, ◌<◌, ◌≤◌, Bool, true, false, not, List, [], ◌∷◌, ◌++◌, length, get_or, set, take, drop, filter, Contains, Option, None, Some, MatchOption, refl, sym, ap, subst, ◌∙◌, arith, add-zero}
-use Rattle.std.proofs.lemmas.Bool.{true≢false}
-use Rattle.std.proofs.lemmas.List.{take-append-drop, drop_more, take_all, drop_all, get_or-drop, nil_from_length}
+use Rattle.std.proofs.Common.{◌≡◌, ℕ, ◌+◌, ◌<◌, ◌≤◌, Bool, true, false, not, List, [], ◌∷◌, ◌++◌, length, get_or, set, take, drop, filter, Contains, refl, sym, ap, subst, ◌∙◌, arith, add-zero}
+use Rattle.std.proofs.lemmas.List.{take-append-drop, drop_more, get_or-drop, nil_from_length}
 use Rattle.std.proofs.lemmas.List.Elements.{All-contains, All-head, All-tail, filter_passes, filter-append}
 use Rattle.std.proofs.lemmas.List.Filters.{FiltersInPlace, FiltersInPlace-more_no, FiltersInPlace-more_set, FiltersInPlace-all}
 use Rattle.std.proofs.lemmas.List.Kept.{IsStrictlySortedBy-filter}
@@ -12,7 +11,7 @@ use Rattle.std.specs.Ordering.{is_lt}
 use Rattle.std.specs.declared.cmp.Ordering.{Ordering}
 use Rattle.std.specs.declared.cmp.Ordering.TheVariants.{Less, Equal, Greater}
 use mathlib.Core.Logic.{⊎_elim}
-use Rattle.m3_terms.specs.InsertedLaws.{was_there, is_kept, cons_cases, head_in}
+use Rattle.m3_terms.specs.InsertedLaws.{is_kept, cons_cases}
 use Rattle.triple_index.specs.Changes.{AreOrdered}
 use Rattle.triple_index.specs.Graphs.{fits_one, without}
 use Rattle.triple_index.specs.GraphLaws.{found_among, is_found, sorted_same, not_below_itself}
@@ -71,10 +70,10 @@ pub closing_start : (old removed rest : List IdTriple) (first : IdTriple) (start
     → IsClosing old old removed removed start start
 closing_start old removed rest first start s r there is within point =
     let front_absent : All (λ x. goes removed x ≡ false) (take start old) = All-before (λ x. goes removed x ≡ false) old start within
-        (λ k d a b. subst (λ l. goes l (get_or old k d) ≡ false) (sym is)
-        (below_absent first rest (get_or old k d) (subst AreOrdered is r) (less_of (id_triple_cmp (get_or old k d) first) (point.0 k d a b)))) in
+    (λ k d a b. subst (λ l. goes l (get_or old k d) ≡ false) (sym is)
+    (below_absent first rest (get_or old k d) (subst AreOrdered is r) (less_of (id_triple_cmp (get_or old k d) first) (point.0 k d a b)))) in
     let split : filter (goes removed) old ≡ filter (goes removed) (take start old) ++ filter (goes removed) (drop start old) =
-        ap (filter (goes removed)) (sym (take-append-drop start old)) ∙ filter-append (goes removed) (take start old) (drop start old) in
+    ap (filter (goes removed)) (sym (take-append-drop start old)) ∙ filter-append (goes removed) (take start old) (drop start old) in
     record {
       keeps = record {
         front = sym (all_kept (stays removed) (take start old) (λ k d below. ap not (front_absent k d below)));
@@ -107,7 +106,7 @@ pub closing_gone : (old now removed left rest : List IdTriple) (kept at : ℕ) (
     → at < length now → x ≡ get_or now at x → left ≡ x ∷ rest → IsClosing old now removed rest kept (at + 1)
 closing_gone old now removed left rest kept at x c within read is =
     let head_goes : goes removed x ≡ true = All-head (λ y. goes removed y ≡ true) x rest
-        (subst (All (λ y. goes removed y ≡ true)) (sym c.coming ∙ is) (filter_passes (goes removed) (drop at old))) in
+    (subst (All (λ y. goes removed y ≡ true)) (sym c.coming ∙ is) (filter_passes (goes removed) (drop at old))) in
     let keeps = FiltersInPlace-more_no c.keeps within (ap not head_goes) read in
     let here : drop at old ≡ x ∷ drop (at + 1) old = sym c.keeps.rest ∙ here_is now at x within read ∙ ap (λ l. x ∷ l) keeps.rest in
     record {
@@ -134,7 +133,7 @@ pub closing_stays : (old now removed left : List IdTriple) (kept at : ℕ) (x : 
 closing_stays old now removed left kept at x c within read other =
     let seen : drop at old ≡ x ∷ drop (at + 1) now = sym c.keeps.rest ∙ here_is now at x within read in
     let not_gone : goes removed x ≡ false = refuted (goes removed x) (λ t.
-        other (filter (goes removed) (drop (at + 1) now)) (c.coming ∙ ap (filter (goes removed)) seen ∙ kept_first (goes removed) x (drop (at + 1) now) t)) in
+    other (filter (goes removed) (drop (at + 1) now)) (c.coming ∙ ap (filter (goes removed)) seen ∙ kept_first (goes removed) x (drop (at + 1) now) t)) in
     let keeps = FiltersInPlace-more_set c.keeps within (ap not not_gone) read in
     let behind : drop (at + 1) old ≡ drop (at + 1) now = rests_same x x _ _ (sym (here_is old at x (omega (arith, c.keeps.long)) (read_old old now at x within c.keeps.rest read)) ∙ seen) in
     record {

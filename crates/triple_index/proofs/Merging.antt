@@ -1,7 +1,7 @@
 -- Items in order merged into items in order, from the end on.
-use Rattle.std.proofs.Common.{◌≡◌, ℕ, zero, suc, ◌+◌, ◌-◌, ◌<◌, ◌≤◌, ◌⊎◌, Bool, true, false, List, [], ◌∷◌, ◌++◌, length, get_or, set, take, drop, filter, Contains, refl, sym, ap, subst, ◌∙◌, arith}
+use Rattle.std.proofs.Common.{◌≡◌, ℕ, zero, suc, ◌+◌, ◌-◌, ◌<◌, ◌≤◌, List, [], ◌∷◌, ◌++◌, length, get_or, set, take, drop, filter, Contains, refl, sym, ap, subst, ◌∙◌, arith}
 use Rattle.std.proofs.lemmas.Bool.{cases_lt}
-use Rattle.std.proofs.lemmas.List.{append-nil, append_assoc, length-take, length-take-le, length-set, take_all, drop_all, take_more, drop-set, take-take, take-set-le, get_or-take, take-append-drop, take_at, length-append, get_or_default}
+use Rattle.std.proofs.lemmas.List.{append-nil, append_assoc, length-take-le, length-set, take_all, drop_all, take_more, drop-set, take-take, take-set-le, get_or-take, take-append-drop, take_at, length-append, get_or_default}
 use Rattle.std.proofs.lemmas.List.Elements.{All-contains, All-contains_itself, All-weaker, All-head, All-tail, filter-append, Contains-get_or}
 use Rattle.std.proofs.lemmas.Map.Keys.{Less-from_sorted}
 use Rattle.std.proofs.lemmas.Map.Lookups.{CmpEqualImpliesEq}
@@ -38,9 +38,9 @@ module _ {K : Type 0} {R : K → K → Ordering} (o : IsTotalOrder R) (exact : C
       let last_low : filter (λ k. is_lt (R k y)) (x ∷ []) ≡ [] = rw over refl in
       let last_high : filter (λ k. is_gt (R k y)) (x ∷ []) ≡ x ∷ [] = rw over refl in
       let low : filter (λ k. is_lt (R k y)) (xs ++ x ∷ []) ≡ filter (λ k. is_lt (R k y)) xs =
-          filter-append (λ k. is_lt (R k y)) xs (x ∷ []) ∙ ap (λ l. filter (λ k. is_lt (R k y)) xs ++ l) last_low ∙ append-nil (filter (λ k. is_lt (R k y)) xs) in
+      filter-append (λ k. is_lt (R k y)) xs (x ∷ []) ∙ ap (λ l. filter (λ k. is_lt (R k y)) xs ++ l) last_low ∙ append-nil (filter (λ k. is_lt (R k y)) xs) in
       let high : filter (λ k. is_gt (R k y)) (xs ++ x ∷ []) ≡ filter (λ k. is_gt (R k y)) xs ++ x ∷ [] =
-          filter-append (λ k. is_gt (R k y)) xs (x ∷ []) ∙ ap (λ l. filter (λ k. is_gt (R k y)) xs ++ l) last_high in
+      filter-append (λ k. is_gt (R k y)) xs (x ∷ []) ∙ ap (λ l. filter (λ k. is_gt (R k y)) xs ++ l) last_high in
       ap (λ l. l ++ y ∷ filter (λ k. is_gt (R k y)) (xs ++ x ∷ [])) low
       ∙ ap (λ l. filter (λ k. is_lt (R k y)) xs ++ y ∷ l) high
       ∙ sym (append_assoc (filter (λ k. is_lt (R k y)) xs) (y ∷ filter (λ k. is_gt (R k y)) xs) (x ∷ []))
@@ -62,20 +62,20 @@ module _ {K : Type 0} {R : K → K → Ordering} (o : IsTotalOrder R) (exact : C
       → with_all R xs (ys ++ x ∷ []) ≡ with_all R xs ys ++ x ∷ []
   with_all_last x xs ys low high =
       let all : All (λ y. R y x ≡ Less) (with_all R xs ys) = All-from_contains (λ y. R y x ≡ Less) (with_all R xs ys)
-          (λ q c. ⊎_elim
-            (λ old. All-contains (λ y. R y x ≡ Less) xs q low old)
-            (λ new. All-contains (λ y. R y x ≡ Less) ys q high new)
-            ((with_all_has o exact xs ys q).0 c)) in
+      (λ q c. ⊎_elim
+      (λ old. All-contains (λ y. R y x ≡ Less) xs q low old)
+      (λ new. All-contains (λ y. R y x ≡ Less) ys q high new)
+      ((with_all_has o exact xs ys q).0 c)) in
       with_all_more xs ys (x ∷ []) ∙ inserted_last x (with_all R xs ys) all
 
   -- items in order up to one that is below another are all below it
   up_to : (xs : List K) (n : ℕ) (d y : K) → IsStrictlySortedBy R xs → n < length xs → R (get_or xs n d) y ≡ Less → All (λ z. R z y ≡ Less) (take (n + 1) xs)
   up_to xs n d y s within h = All-before (λ z. R z y ≡ Less) xs (n + 1) (omega arith) (λ k e a b. ⊎_elim
       (λ (early : k < n). o.trans (get_or xs k e) (get_or xs n e) y (Less-from_sorted R xs k n e s early within)
-        (subst (λ z. R z y ≡ Less) (get_or_default xs n d e within) h))
+      (subst (λ z. R z y ≡ Less) (get_or_default xs n d e within) h))
       (λ (late : n ≤ k).
-        let same : n ≡ k = omega arith in
-        subst (λ i. R (get_or xs i e) y ≡ Less) same (subst (λ z. R z y ≡ Less) (get_or_default xs n d e within) h))
+      let same : n ≡ k = omega arith in
+      subst (λ i. R (get_or xs i e) y ≡ Less) same (subst (λ z. R z y ≡ Less) (get_or_default xs n d e within) h))
       (cases_lt k n))
 
   -- items in order before a place are below the one there
@@ -121,11 +121,11 @@ module _ {K : Type 0} {R : K → K → Ordering} (o : IsTotalOrder R) (exact : C
       let right_within = m.right_within in
       let last : x ≡ get_or xs left x = is_x ∙ front_read xs ys now left (right + 1) x m in
       let split : take (left + 1) xs ≡ take left xs ++ x ∷ [] =
-          take_more xs left x (omega arith) ∙ ap (λ z. take left xs ++ z ∷ []) (sym last) in
+      take_more xs left x (omega arith) ∙ ap (λ z. take left xs ++ z ∷ []) (sym last) in
       let low : All (λ z. R z x ≡ Less) (take (right + 1) ys) =
-          up_to ys right y x s (omega arith) (subst (λ z. R z x ≡ Less) is_y h) in
+      up_to ys right y x s (omega arith) (subst (λ z. R z x ≡ Less) is_y h) in
       let moved : drop (left + right + 1) (set now (left + right + 1) x) ≡ x ∷ drop (left + right + 1 + 1) now =
-          drop-set now (left + right + 1) x (omega arith) in
+      drop-set now (left + right + 1) x (omega arith) in
       let place : left + (right + 1) ≡ left + right + 1 = omega arith in
       let next : left + right + 1 + 1 ≡ left + 1 + (right + 1) = omega arith in
       let a = take left xs in
@@ -174,10 +174,10 @@ module _ {K : Type 0} {R : K → K → Ordering} (o : IsTotalOrder R) (exact : C
       let left_within = m.left_within in
       let right_within = m.right_within in
       let split : take (right + 1) ys ≡ take right ys ++ y ∷ [] =
-          take_more ys right y (omega arith) ∙ ap (λ z. take right ys ++ z ∷ []) (sym is_y) in
+      take_more ys right y (omega arith) ∙ ap (λ z. take right ys ++ z ∷ []) (sym is_y) in
       let low : All (λ z. R z y ≡ Less) (take left xs) = left_below xs ys now left (right + 1) y s m unless fresh in
       let high : All (λ z. R z y ≡ Less) (take right ys) =
-          subst (λ w. All (λ z. R z w ≡ Less) (take right ys)) (sym is_y) (before_place ys right y t (omega arith)) in
+      subst (λ w. All (λ z. R z w ≡ Less) (take right ys)) (sym is_y) (before_place ys right y t (omega arith)) in
       let put : drop (left + right) (set now (left + right) y) ≡ y ∷ drop (left + right + 1) now = drop-set now (left + right) y (omega arith) in
       let next : left + right + 1 ≡ left + (right + 1) = omega arith in
       let a = take left xs in
@@ -210,10 +210,10 @@ module _ {K : Type 0} {R : K → K → Ordering} (o : IsTotalOrder R) (exact : C
       let right_is : right ≡ r + 1 = omega arith in
       let place : l + r + 1 ≡ left + right - 1 = omega arith in
       let here : IsMerging xs ys now (l + 1) (r + 1) =
-          subst (λ n. IsMerging xs ys now (l + 1) n) right_is (subst (λ n. IsMerging xs ys now n right) left_is m) in
+      subst (λ n. IsMerging xs ys now (l + 1) n) right_is (subst (λ n. IsMerging xs ys now n right) left_is m) in
       let within : l < length now = omega arith in
       let moved = merging_moves xs ys now l r x y s here (get_or_default now l d x within) (get_or_default ys r d y (omega arith))
-          (subst (λ z. R y z ≡ Less) (get_or_default now l y d within) h) in
+      (subst (λ z. R y z ≡ Less) (get_or_default now l y d within) h) in
       subst (λ n. IsMerging xs ys (set now n x) l right) place (subst (λ n. IsMerging xs ys (set now (l + r + 1) x) l n) (sym right_is) moved)
 
   -- one that puts the last of the second list
@@ -229,7 +229,7 @@ module _ {K : Type 0} {R : K → K → Ordering} (o : IsTotalOrder R) (exact : C
       let place : left + r ≡ left + right - 1 = omega arith in
       let here : IsMerging xs ys now left (r + 1) = subst (λ n. IsMerging xs ys now left n) right_is m in
       let put = merging_puts xs ys now left r y s t here (get_or_default ys r d y (omega arith)) unless
-          (fresh y (Contains-get_or ys r d (omega arith))) in
+      (fresh y (Contains-get_or ys r d (omega arith))) in
       subst (λ n. IsMerging xs ys (set now n y) left r) place put
 
   -- once the second list is empty, all is merged

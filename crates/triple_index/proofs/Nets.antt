@@ -1,7 +1,7 @@
 -- What a net change is made of, and what it makes of a graph.
-use Rattle.std.proofs.Common.{◌≡◌, ℕ, ◌+◌, ◌≤◌, ◌⊎◌, ◌↔◌, Bool, true, false, not, List, [], ◌∷◌, ◌++◌, ◌||◌, ◌<◌, length, get_or, take, filter, Contains, IsTrue, refl, sym, ap, subst, ◌∙◌, inl, inr, arith}
+use Rattle.std.proofs.Common.{◌≡◌, ℕ, ◌+◌, ◌≤◌, ◌⊎◌, Bool, true, false, List, [], ◌∷◌, ◌++◌, ◌||◌, ◌<◌, length, get_or, take, filter, Contains, refl, sym, subst, ◌∙◌, inl, inr, arith}
 use Rattle.std.proofs.lemmas.Bool.{true≢false}
-use Rattle.std.proofs.lemmas.List.Kept.{IsStrictlySortedBy-dedup, IsStrictlySortedBy-filter, Contains-dedup, Contains-from_dedup}
+use Rattle.std.proofs.lemmas.List.Kept.{IsStrictlySortedBy-dedup, Contains-dedup, Contains-from_dedup}
 use Rattle.std.proofs.lemmas.List.{take_more, take_all}
 use Rattle.std.proofs.lemmas.List.Elements.{All-contains, filter_passes, Contains-append_left, Contains-append_right, Contains-append_cases}
 use Rattle.std.proofs.lemmas.List.Folds.{list_any-append}
@@ -10,7 +10,7 @@ use Rattle.std.proofs.lemmas.List.Sums.{sum_by_more, sum_by-take-le}
 use Rattle.std.specs.List.{dedup}
 use Rattle.std.specs.List.Sorted.{IsSorted, IsPermutation, IsStrictlySortedBy}
 use mathlib.Core.Logic.{⊎_elim}
-use Rattle.triple_index.specs.Changes.{AreOrdered, Net, IsNet, changed}
+use Rattle.triple_index.specs.Changes.{AreOrdered, IsNet, changed}
 use Rattle.triple_index.specs.Fits.{fits}
 use Rattle.m3_terms.specs.InsertedLaws.{was_there, is_kept}
 use Rattle.triple_index.specs.Graphs.{fits_one, without, after, count_fitting}
@@ -78,8 +78,11 @@ from_change : (graph read wanted removed inserted insert : List IdTriple) (remov
     → (Contains graph q × (fits_one fits remove q ≡ false)) ⊎ Contains insert q
 from_change graph read wanted removed inserted insert remove f w r i q (inr c) wants e = inr ((w q).0 ((i q).0 c).0)
 from_change graph read wanted removed inserted insert remove f w r i q (inl h) true e = inr ((w q).0 (is_found id_triple_eq id_triple_exact wanted q e))
-from_change graph read wanted removed inserted insert remove f w r i q (inl h) false e = inl (h.0, refuted (fits_one fits remove q)
-    (λ t. not_among removed q h.1 ((r q).1 ((f q).1 (h.0, t), not_among wanted q e))))
+from_change graph read wanted removed inserted insert remove f w r i q (inl h) false e = inl (
+  h.0,
+  refuted (fits_one fits remove q)
+      (λ t. not_among removed q h.1 ((r q).1 ((f q).1 (h.0, t), not_among wanted q e))),
+)
 
 -- what is in the graph after the update is in it after the change
 to_change : (graph read wanted removed inserted insert : List IdTriple) (remove : List IdPattern)
@@ -143,8 +146,8 @@ fitting_more graph read rows more patterns pattern f p e = subst (HasFitting gra
   λ c. ⊎_elim
       (λ old. (((f t).0 old).0, fits_more patterns pattern t ∙ first_passes (fits_one fits patterns t) (fits pattern t || false) ((f t).0 old).1))
       (λ new.
-        let kept = Contains-permutation rows (filter (fits pattern) graph) t (IsPermutation-sym _ rows p) new in
-        (was_there (fits pattern) graph t kept, fits_more patterns pattern t ∙ last_passes (fits_one fits patterns t) (fits pattern t) (kept_passes (fits pattern) graph t kept)))
+      let kept = Contains-permutation rows (filter (fits pattern) graph) t (IsPermutation-sym _ rows p) new in
+      (was_there (fits pattern) graph t kept, fits_more patterns pattern t ∙ last_passes (fits_one fits patterns t) (fits pattern t) (kept_passes (fits pattern) graph t kept)))
       (Contains-append_cases read rows t c),
   λ h. ⊎_elim
       (λ old. Contains-append_left read rows t ((f t).1 (h.0, old)))

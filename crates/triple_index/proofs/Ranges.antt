@@ -1,11 +1,9 @@
 -- The part of triples in order that a pattern can fit.
-use Rattle.std.proofs.Common.{◌≡◌, ℕ, ◌+◌, ◌<◌, ◌≤◌, ◌⊎◌, Bool, true, false, ◌&&◌, List, [], ◌∷◌, ◌++◌, length, get_or, take, drop, filter, Option, Some, None, nat_eq, refl, sym, ap, subst, ◌∙◌, inl, inr, arith}
+use Rattle.std.proofs.Common.{◌≡◌, ℕ, ◌+◌, ◌<◌, ◌≤◌, ◌⊎◌, Bool, true, false, ◌&&◌, List, [], ◌∷◌, ◌++◌, length, get_or, take, drop, filter, Option, Some, None, refl, sym, ap, subst, ◌∙◌, inl, inr, arith}
 use Rattle.std.proofs.lemmas.Bool.{cases_lt, true≢false}
-use Rattle.std.proofs.lemmas.Bool.Decides.{Decides-eqb}
 use Rattle.std.proofs.lemmas.Cmp.{tied_itself, alike_right}
 use Rattle.std.proofs.lemmas.List.{take-append-drop, get_or-take, get_or-drop, length-take, length-drop, append-nil}
 use Rattle.std.proofs.lemmas.List.Elements.{filter-append, All-head, All-tail}
-use Rattle.std.proofs.lemmas.List.Sorted.{IsNonDecreasingBy-drop}
 use Rattle.std.proofs.lemmas.Map.Keys.{Less-from_sorted}
 use Rattle.std.specs.Cmp.{first_so, second_so}
 use Rattle.std.specs.List.{All, AllWithin}
@@ -67,9 +65,9 @@ side_rises : (mask : IdPattern) (s t : IdTriple) → id_triple_cmp s t ≡ Less 
 side_rises mask s t h = ⊎_elim
     (λ subject. lower_side mask.subject s.subject t.subject _ _ subject)
     (λ same. next_side mask.subject s.subject t.subject _ _ same.0 (⊎_elim
-      (λ predicate. lower_side mask.predicate s.predicate t.predicate _ _ predicate)
-      (λ equal. next_side mask.predicate s.predicate t.predicate _ _ equal.0 (lower_side mask.object s.object t.object _ _ equal.1))
-      (then_less (id_cmp s.predicate t.predicate) (id_cmp s.object t.object) same.1)))
+    (λ predicate. lower_side mask.predicate s.predicate t.predicate _ _ predicate)
+    (λ equal. next_side mask.predicate s.predicate t.predicate _ _ equal.0 (lower_side mask.object s.object t.object _ _ equal.1))
+    (then_less (id_cmp s.predicate t.predicate) (id_cmp s.object t.object) same.1)))
     (then_less (id_cmp s.subject t.subject) (ordering_then (id_cmp s.predicate t.predicate) (id_cmp s.object t.object)) h)
 
 -- triples in order stand to a pattern in rising order
@@ -128,12 +126,12 @@ pub range_fits : (mask : IdPattern) (xs : List IdTriple) (m n : ℕ) → m ≤ l
     → filter (fits mask) (take n (drop m xs)) ≡ filter (fits mask) xs
 range_fits mask xs m n small short low high =
     let before : filter (fits mask) (take m xs) ≡ [] = none_kept (fits mask) (take m xs)
-        (All-before (λ t. fits mask t ≡ false) xs m small (λ k d a b. unfit_as is_lt refl mask (get_or xs k d) _ refl (low.0 k d a b))) in
+    (All-before (λ t. fits mask t ≡ false) xs m small (λ k d a b. unfit_as is_lt refl mask (get_or xs k d) _ refl (low.0 k d a b))) in
     let after : filter (fits mask) (drop n (drop m xs)) ≡ [] = none_kept (fits mask) (drop n (drop m xs))
-        (All-behind (λ t. fits mask t ≡ false) (drop m xs) n (λ k d a b. unfit_by is_le refl mask (get_or (drop m xs) k d) _ refl (high.1 k d a b))) in
+    (All-behind (λ t. fits mask t ≡ false) (drop m xs) n (λ k d a b. unfit_by is_le refl mask (get_or (drop m xs) k d) _ refl (high.1 k d a b))) in
     let rest : filter (fits mask) (drop m xs) ≡ filter (fits mask) (take n (drop m xs)) ++ filter (fits mask) (drop n (drop m xs)) =
-        ap (filter (fits mask)) (sym (take-append-drop n (drop m xs))) ∙ filter-append (fits mask) (take n (drop m xs)) (drop n (drop m xs)) in
+    ap (filter (fits mask)) (sym (take-append-drop n (drop m xs))) ∙ filter-append (fits mask) (take n (drop m xs)) (drop n (drop m xs)) in
     let all : filter (fits mask) xs ≡ filter (fits mask) (take m xs) ++ filter (fits mask) (drop m xs) =
-        ap (filter (fits mask)) (sym (take-append-drop m xs)) ∙ filter-append (fits mask) (take m xs) (drop m xs) in
+    ap (filter (fits mask)) (sym (take-append-drop m xs)) ∙ filter-append (fits mask) (take m xs) (drop m xs) in
     sym (all ∙ ap (λ l. l ++ filter (fits mask) (drop m xs)) before ∙ rest
     ∙ ap (λ l. filter (fits mask) (take n (drop m xs)) ++ l) after ∙ append-nil (filter (fits mask) (take n (drop m xs))))

@@ -1,5 +1,5 @@
 -- The rows of a view: what fits of the triples that stay, and then what fits of those that are inserted.
-use Rattle.std.proofs.Common.{◌≡◌, ℕ, ◌+◌, ◌<◌, ◌⊎◌, Bool, true, false, ◌&&◌, not, cond, List, [], ◌∷◌, ◌++◌, length, get_or, take, drop, filter, Contains, Option, None, Some, MatchOption, refl, sym, ap, subst, ◌∙◌, inl, inr, arith}
+use Rattle.std.proofs.Common.{◌≡◌, ℕ, ◌+◌, ◌<◌, Bool, true, false, ◌&&◌, not, cond, List, [], ◌∷◌, ◌++◌, length, get_or, drop, filter, Contains, refl, sym, ap, subst, ◌∙◌, inl, inr}
 use Rattle.std.proofs.lemmas.List.{drop_more, append-nil}
 use Rattle.std.proofs.lemmas.List.Elements.{All-contains, All-head, All-tail}
 use Rattle.std.proofs.lemmas.List.Kept.{IsStrictlySortedBy-filter}
@@ -16,7 +16,7 @@ use Rattle.std.specs.declared.cmp.Ordering.TheVariants.{Less, Equal, Greater}
 use mathlib.Core.Logic.{⊎_elim}
 use Rattle.m3_terms.specs.Inserted.{inserted}
 use Rattle.m3_terms.specs.InsertedLaws.{inserted_has, head_in, tail_in, was_there, is_kept}
-use Rattle.triple_index.specs.Changes.{AreOrdered, Net, IsNet, changed}
+use Rattle.triple_index.specs.Changes.{AreOrdered, IsNet, changed}
 use Rattle.triple_index.specs.Fits.{fits}
 use Rattle.triple_index.specs.Graphs.{fits_one, without, with_all}
 use Rattle.triple_index.specs.GraphLaws.{sorted_same, with_all_ordered, with_all_has, not_below_itself}
@@ -108,17 +108,17 @@ module _ {K : Type 0} {R : K → K → Ordering} (o : IsTotalOrder R) (exact : C
       (IsStrictlySortedBy-filter R test (with_all R graph items) (with_all_ordered o exact graph items s))
       (with_all_ordered o exact (filter test graph) (filter test items) (IsStrictlySortedBy-filter R test graph s))
       (λ q c.
-        let passes = kept_passes test (with_all R graph items) q c in
-        (with_all_has o exact (filter test graph) (filter test items) q).1 (⊎_elim
-          (λ old. inl (is_kept test graph q passes old))
-          (λ new. inr (is_kept test items q passes new))
-          ((with_all_has o exact graph items q).0 (was_there test (with_all R graph items) q c))))
+      let passes = kept_passes test (with_all R graph items) q c in
+      (with_all_has o exact (filter test graph) (filter test items) q).1 (⊎_elim
+      (λ old. inl (is_kept test graph q passes old))
+      (λ new. inr (is_kept test items q passes new))
+      ((with_all_has o exact graph items q).0 (was_there test (with_all R graph items) q c))))
       (λ q c. ⊎_elim
-        (λ old. is_kept test (with_all R graph items) q (kept_passes test graph q old)
-          ((with_all_has o exact graph items q).1 (inl (was_there test graph q old))))
-        (λ new. is_kept test (with_all R graph items) q (kept_passes test items q new)
-          ((with_all_has o exact graph items q).1 (inr (was_there test items q new))))
-        ((with_all_has o exact (filter test graph) (filter test items) q).0 c))
+      (λ old. is_kept test (with_all R graph items) q (kept_passes test graph q old)
+      ((with_all_has o exact graph items q).1 (inl (was_there test graph q old))))
+      (λ new. is_kept test (with_all R graph items) q (kept_passes test items q new)
+      ((with_all_has o exact graph items q).1 (inr (was_there test items q new))))
+      ((with_all_has o exact (filter test graph) (filter test items) q).0 c))
 
   -- an item that is not another is above it where it is not below it
   apart : (r : Ordering) → (r ≡ Equal → ⊥) → not (is_lt r) ≡ is_gt r
@@ -131,10 +131,10 @@ module _ {K : Type 0} {R : K → K → Ordering} (o : IsTotalOrder R) (exact : C
   inserted_moved x xs fresh =
       let low = filter (λ y. is_lt (R y x)) xs in
       let other : filter (λ y. not (is_lt (R y x))) xs ≡ filter (λ y. is_gt (R y x)) xs =
-          agree (λ y. not (is_lt (R y x))) (λ y. is_gt (R y x)) xs
-          (All-from_contains (λ y. not (is_lt (R y x)) ≡ is_gt (R y x)) xs (λ q c. apart (R q x) (λ e. fresh (subst (Contains xs) (exact q x e) c)))) in
+      agree (λ y. not (is_lt (R y x))) (λ y. is_gt (R y x)) xs
+      (All-from_contains (λ y. not (is_lt (R y x)) ≡ is_gt (R y x)) xs (λ q c. apart (R q x) (λ e. fresh (subst (Contains xs) (exact q x e) c)))) in
       let both : IsPermutation xs (low ++ filter (λ y. is_gt (R y x)) xs) =
-          subst (λ l. IsPermutation xs (low ++ l)) other (IsPermutation-filter_both (λ y. is_lt (R y x)) (λ y. not (is_lt (R y x))) (λ y. refl) xs) in
+      subst (λ l. IsPermutation xs (low ++ l)) other (IsPermutation-filter_both (λ y. is_lt (R y x)) (λ y. not (is_lt (R y x))) (λ y. refl) xs) in
       IsPermutation-trans _ _ _ (IsPermutation-middle low x (filter (λ y. is_gt (R y x)) xs))
       (IsPermutation-cons x _ _ (IsPermutation-sym xs _ both))
 
@@ -144,12 +144,12 @@ module _ {K : Type 0} {R : K → K → Ordering} (o : IsTotalOrder R) (exact : C
   with_all_moved graph [] s fresh = subst (IsPermutation graph) (sym (append-nil graph)) (IsPermutation-refl graph)
   with_all_moved graph (x ∷ xs) s fresh =
       let rest : IsPermutation (with_all R (inserted R x graph) xs) (inserted R x graph ++ xs) =
-          with_all_moved (inserted R x graph) xs (sorted_tail R x xs s) (λ q later there. ⊎_elim
-            (λ (same : q ≡ x). not_below_itself o x (subst (λ z. R x z ≡ Less) same (All-contains (λ z. R x z ≡ Less) xs q (All-after_first R x xs s) later)))
-            (λ (old : Contains graph q). fresh q (tail_in x xs q later) old)
-            ((inserted_has exact x graph q).0 there)) in
+      with_all_moved (inserted R x graph) xs (sorted_tail R x xs s) (λ q later there. ⊎_elim
+      (λ (same : q ≡ x). not_below_itself o x (subst (λ z. R x z ≡ Less) same (All-contains (λ z. R x z ≡ Less) xs q (All-after_first R x xs s) later)))
+      (λ (old : Contains graph q). fresh q (tail_in x xs q later) old)
+      ((inserted_has exact x graph q).0 there)) in
       let here : IsPermutation (inserted R x graph ++ xs) (x ∷ (graph ++ xs)) =
-          IsPermutation-append_left xs (inserted R x graph) (x ∷ graph) (inserted_moved x graph (fresh x (head_in x xs))) in
+      IsPermutation-append_left xs (inserted R x graph) (x ∷ graph) (inserted_moved x graph (fresh x (head_in x xs))) in
       IsPermutation-trans _ _ _ rest (IsPermutation-trans _ _ _ here (IsPermutation-sym _ _ (IsPermutation-middle graph x xs)))
 
 -- the triples that fit a mask in the graph after a change are the rows of what stays and what fits of what is inserted
@@ -157,16 +157,16 @@ pub rows_are : (mask : IdPattern) (graph removed inserted part inserted_part : L
     → IsNet graph (record { removed = removed; inserted = inserted })
     → filter (fits mask) part ≡ filter (fits mask) graph → filter (fits mask) inserted_part ≡ filter (fits mask) inserted
     → IsPermutation (filter (fits mask) (changed graph (record { removed = removed; inserted = inserted })))
-      (rows_of mask part removed ++ filter (fits mask) inserted_part)
+    (rows_of mask part removed ++ filter (fits mask) inserted_part)
 rows_are mask graph removed inserted part inserted_part s t net same also =
     let stays : IdTriple → Bool = λ item. not (fits_one id_triple_eq removed item) in
     let left = without id_triple_eq graph removed in
     let all : filter (fits mask) (changed graph (record { removed = removed; inserted = inserted })) ≡ with_all id_triple_cmp (filter (fits mask) left) (filter (fits mask) inserted) =
-        with_all_kept id_triple_cmp_total id_triple_one (fits mask) left inserted (IsStrictlySortedBy-filter id_triple_cmp stays graph s) in
+    with_all_kept id_triple_cmp_total id_triple_one (fits mask) left inserted (IsStrictlySortedBy-filter id_triple_cmp stays graph s) in
     let moved : IsPermutation (with_all id_triple_cmp (filter (fits mask) left) (filter (fits mask) inserted)) (filter (fits mask) left ++ filter (fits mask) inserted) =
-        with_all_moved id_triple_cmp_total id_triple_one (filter (fits mask) left) (filter (fits mask) inserted)
-        (IsStrictlySortedBy-filter id_triple_cmp (fits mask) inserted t)
-        (λ q new old. net.inserted_new q (was_there (fits mask) inserted q new) (was_there stays graph q (was_there (fits mask) left q old))) in
+    with_all_moved id_triple_cmp_total id_triple_one (filter (fits mask) left) (filter (fits mask) inserted)
+    (IsStrictlySortedBy-filter id_triple_cmp (fits mask) inserted t)
+    (λ q new old. net.inserted_new q (was_there (fits mask) inserted q new) (was_there stays graph q (was_there (fits mask) left q old))) in
     let kept : filter (fits mask) left ≡ rows_of mask part removed = twice (fits mask) stays graph ∙ ap (filter stays) (sym same) in
     subst (λ l. IsPermutation l (rows_of mask part removed ++ filter (fits mask) inserted_part)) (sym all)
     (subst (IsPermutation (with_all id_triple_cmp (filter (fits mask) left) (filter (fits mask) inserted)))

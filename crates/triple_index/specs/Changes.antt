@@ -1,5 +1,5 @@
 -- Indexes and changes as contracts see them.
-use Rattle.std.specs.Prelude.{◌≡◌, ℕ, List, [], ◌∷◌, Contains, refl}
+use Rattle.std.specs.Prelude.{ℕ, List, Contains}
 use Rattle.std.specs.List.Sorted.{IsStrictlySortedBy}
 use Rattle.triple_index.specs.declared.triple.IdTriple.{IdTriple}
 use Rattle.triple_index.specs.IdOrder.{id_triple_cmp, id_triple_eq}

@@ -1,6 +1,6 @@
 -- What an update makes of a graph: it stays in order, and what it contains.
 use Rattle.std.proofs.Common.{◌≡◌, ◌<◌, ◌⊎◌, ◌↔◌, Bool, true, false, not, ◌||◌, List, [], ◌∷◌, filter, Contains, refl, sym, ap, subst, ◌∙◌, inl, inr, arith}
-use Rattle.std.proofs.lemmas.Bool.{not-true, not_from_false}
+use Rattle.std.proofs.lemmas.Bool.{not-true}
 use Rattle.std.proofs.lemmas.Cmp.{tied_itself}
 use Rattle.std.proofs.lemmas.List.Elements.{All-contains, filter_passes}
 use Rattle.std.proofs.lemmas.List.Kept.{IsStrictlySortedBy-filter}
@@ -90,8 +90,7 @@ module _ {P K : Type 0} (fits : P → K → Bool) where
   pub without_has : (graph : List K) (patterns : List P) (q : K)
       → Contains (without fits graph patterns) q ↔ (Contains graph q × (fits_one fits patterns q ≡ false))
   without_has graph patterns q =
-      let test : K → Bool = λ item. not (fits_one fits patterns item) in
-      (
+      let test : K → Bool = λ item. not (fits_one fits patterns item) in (
         λ c. (was_there test graph q c, not-true (fits_one fits patterns q) (All-contains (λ x. test x ≡ true) (filter test graph) q (filter_passes test graph) c)),
         λ h. is_kept test graph q (ap not h.1) h.0,
       )
@@ -107,8 +106,7 @@ module _ {K : Type 0} {R : K → K → Ordering} (o : IsTotalOrder R) (exact : C
   with_all_has graph [] q = (inl, λ s. ⊎_elim (λ c. c) (λ none. absurd (none_in q none)) s)
   with_all_has graph (x ∷ xs) q =
       let there = inserted_has exact x graph q in
-      let later = with_all_has (inserted R x graph) xs q in
-      (
+      let later = with_all_has (inserted R x graph) xs q in (
         λ c. ⊎_elim
             (λ new. ⊎_elim (λ e. inr (subst (Contains (x ∷ xs)) (sym e) (head_in x xs))) inl (there.0 new))
             (λ rest. inr (tail_in x xs q rest))

@@ -1,10 +1,10 @@
 -- The order of triples of numbers is total, and it answers `Equal` exactly where two triples are one.
-use Rattle.std.proofs.Common.{◌≡◌, ℕ, Bool, ◌&&◌, nat_eq, refl, sym, ap, ◌∙◌}
+use Rattle.std.proofs.Common.{◌≡◌, ℕ, ◌&&◌, sym, ap, ◌∙◌}
 use Rattle.std.proofs.lemmas.Bool.Decides.{Decides-eqb}
 use Rattle.std.proofs.lemmas.Map.Lookups.{CmpEqualImpliesEq}
 use Rattle.std.specs.Bool.{Decides}
 use Rattle.std.specs.Cmp.{IsTotalOrder, IsEquivalence, then_total, on_total, nat_cmp_total, nat_eq_equiv, on_equiv, and_equiv, both_tied, unsigned_ties, Equal-is, eq_by_cmp_equiv, first_so, second_so}
-use Rattle.std.specs.Ordering.{eq_by_cmp, nat_cmp}
+use Rattle.std.specs.Ordering.{eq_by_cmp}
 use Rattle.m3_terms.specs.declared.table.TermId.{TermId}
 use Rattle.triple_index.specs.declared.triple.IdTriple.{IdTriple}
 use Rattle.triple_index.specs.IdOrder.{id_cmp, id_eq, id_triple_cmp, id_triple_eq}

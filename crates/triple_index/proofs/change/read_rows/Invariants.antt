@@ -1,4 +1,4 @@
-use Rattle.std.proofs.Common.{◌≡◌, ◌+◌, ◌≤◌, ◌++◌, length}
+use Rattle.std.proofs.Common.{◌≡◌, ◌+◌, ◌++◌, length}
 use Rattle.triple_index.proofs.change.read_rows.Given as goal
 
 abbrev pub invariant-loop-row : goal.invariant-loop-row

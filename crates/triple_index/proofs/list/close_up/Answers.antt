@@ -1,5 +1,5 @@
 -- Triples taken out of a list in place.
-use Rattle.std.proofs.Common.{◌≡◌, ◌<◌, ◌≤◌, List, length, true, false, refl, sym, ap, subst, ◌∙◌, rules, arith}
+use Rattle.std.proofs.Common.{◌≡◌, ◌<◌, ◌≤◌, length, true, false, refl, sym, subst, rules, arith}
 use Rattle.std.proofs.lemmas.List.Sorted.{IsPartitionPoint-from_clause}
 use Rattle.std.specs.List.Sorted.{IsPartitionPoint}
 use Rattle.std.specs.Ordering.{is_lt}
@@ -8,7 +8,7 @@ use Rattle.triple_index.specs.IdOrder.{id_triple_cmp}
 use Rattle.triple_index.specs.IdOrderLaws.{id_triple_cmp_total}
 use Rattle.triple_index.specs.declared.triple.IdTriple.{IdTriple}
 use Rattle.triple_index.proofs.Searches.{rising, below_first}
-use Rattle.triple_index.proofs.Closing.{closing_none, closing_start, closing_gone, closing_stays, closing_all}
+use Rattle.triple_index.proofs.Closing.{closing_none, closing_start, closing_gone, closing_stays}
 use Rattle.triple_index.proofs.list.close_up.Goals as goal
 use Rattle.triple_index.proofs.list.close_up.Goals.{in-Some-rest_behind, in-None}
 
@@ -39,11 +39,11 @@ loop-at-preserved c =
     let within : c.loop-at.at < length c.loop-at.triples.items = omega (arith, c.loop-at.triples.ok.0, c.args.triples.now.ok.0, now.keeps.long) in
     elim c.match-rest_behind.branch [
       | in-Some-rest_behind w ↦ rw (w.triples-is, w.kept-is, w.left-is) (record {
-            closing = closing_gone _ _ _ _ _ _ _ _ now within c.index.ensures w.in-Some-rest_behind.ensures;
-            capacity = c.loop-at.invariant.capacity;
-          })
+        closing = closing_gone _ _ _ _ _ _ _ _ now within c.index.ensures w.in-Some-rest_behind.ensures;
+        capacity = c.loop-at.invariant.capacity;
+      })
       | in-None w ↦ rw (w.triples-is, w.kept-is, w.left-is) (record {
-            closing = closing_stays _ _ _ _ _ _ _ now within c.index.ensures w.in-None.ensures;
-            capacity = c.loop-at.invariant.capacity;
-          })
+        closing = closing_stays _ _ _ _ _ _ _ now within c.index.ensures w.in-None.ensures;
+        capacity = c.loop-at.invariant.capacity;
+      })
     ]

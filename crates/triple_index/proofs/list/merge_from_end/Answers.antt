@@ -1,5 +1,5 @@
 -- Triples merged from the end on.
-use Rattle.std.proofs.Common.{true, false, sym, ◌∙◌}
+use Rattle.std.proofs.Common.{sym, ◌∙◌}
 use Rattle.std.proofs.lemmas.Bool.{true≢false}
 use Rattle.triple_index.specs.IdOrderLaws.{id_triple_cmp_total, id_triple_one}
 use Rattle.triple_index.proofs.Merging.{merging_left, merging_right}

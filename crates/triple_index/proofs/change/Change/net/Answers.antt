@@ -3,7 +3,7 @@ use Rattle.std.proofs.Common.{List, sym, subst, ◌∙◌}
 use Rattle.triple_index.specs.Parts.{HasFitting, HasSame, IsRest}
 use Rattle.triple_index.specs.declared.triple.IdTriple.{IdTriple}
 use Rattle.triple_index.specs.declared.triple.IdPattern.{IdPattern}
-use Rattle.triple_index.proofs.Nets.{IsMade, made_net, made_after}
+use Rattle.triple_index.proofs.Nets.{made_net, made_after}
 use Rattle.triple_index.proofs.change.Change.net.Goals as goal
 
 pub returns-clause-net : goal.returns-clause-net

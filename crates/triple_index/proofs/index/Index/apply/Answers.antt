@@ -1,5 +1,5 @@
 -- A change made in an index.
-use Rattle.std.proofs.Common.{◌≡◌, Contains, sym, ap, subst, ◌∙◌}
+use Rattle.std.proofs.Common.{Contains, sym, ap, subst, ◌∙◌}
 use Rattle.std.proofs.lemmas.List.Kept.{IsStrictlySortedBy-filter}
 use Rattle.triple_index.specs.Changes.{AreOrdered, Graph}
 use Rattle.triple_index.specs.GraphLaws.{without_has, with_all_ordered}
@@ -24,8 +24,8 @@ merge-requires-clause-fresh c =
     let seen = c.as_slice-2.ensures ∙ c.inserted.ensures.triples in
     let here = ap (λ (v : Graph). v.triples) c.self.view_is in
     λ t new old.
-        let left = (without_has id_triple_eq c.self.inside.triples.items c.as_slice.result.now t).0 (subst (λ l. Contains l t) c.close_up.ensures.items old) in
-        c.requires.net.inserted_new t (subst (λ l. Contains l t) seen new) (subst (λ l. Contains l t) here left.0)
+    let left = (without_has id_triple_eq c.self.inside.triples.items c.as_slice.result.now t).0 (subst (λ l. Contains l t) c.close_up.ensures.items old) in
+    c.requires.net.inserted_new t (subst (λ l. Contains l t) seen new) (subst (λ l. Contains l t) here left.0)
 
 pub invariant_of-self : goal.invariant_of-self
 invariant_of-self c =

@@ -15,8 +15,7 @@ returns-in-Some-first_row g c =
 
 pub returns : goal.returns
 returns g c =
-    let fields = c.self.inside in
-    (
+    let fields = c.self.inside in (
       none_left fields.mask fields.kept.now fields.removed.now fields.inserted.now c.args.self.now c.self.view_is c.in_default.ensures c.in_default-first_row.ensures,
       refl,
     )
