@@ -4,6 +4,8 @@
 #[cfg(test)]
 mod algebra;
 #[cfg(test)]
+mod index;
+#[cfg(test)]
 mod links;
 #[cfg(test)]
 mod outside;
