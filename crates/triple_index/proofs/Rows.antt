@@ -16,10 +16,10 @@ use Rattle.std.specs.declared.cmp.Ordering.TheVariants.{Less, Equal, Greater}
 use mathlib.Core.Logic.{⊎_elim}
 use Rattle.m3_terms.specs.Inserted.{inserted}
 use Rattle.m3_terms.specs.InsertedLaws.{inserted_has, head_in, tail_in, was_there, is_kept}
-use Rattle.triple_index.specs.Changes.{AreOrdered, IsNet, changed}
+use Rattle.triple_index.specs.Changes.{AreOrdered, Net, IsNet, changed}
 use Rattle.triple_index.specs.Fits.{fits}
 use Rattle.triple_index.specs.Graphs.{fits_one, without, with_all}
-use Rattle.triple_index.specs.GraphLaws.{sorted_same, with_all_ordered, with_all_has, not_below_itself}
+use Rattle.triple_index.specs.GraphLaws.{sorted_same, after_ordered, with_all_ordered, with_all_has, not_below_itself}
 use Rattle.triple_index.specs.IdOrder.{id_triple_cmp, id_triple_eq}
 use Rattle.triple_index.specs.IdOrderLaws.{id_triple_cmp_total, id_triple_one}
 use Rattle.triple_index.specs.Rows.{rows_of}
@@ -175,3 +175,7 @@ rows_are mask graph removed inserted part inserted_part s t net same also =
 -- the graph after a change that does nothing
 pub unchanged : (graph : List IdTriple) → graph ≡ changed graph (record { removed = []; inserted = [] })
 unchanged graph = sym (all_kept (λ t. not (fits_one id_triple_eq [] t)) graph (λ k d below. refl))
+
+-- the graph after a change is in order
+pub changed_ordered : (graph : List IdTriple) (change : Net) → AreOrdered graph → AreOrdered (changed graph change)
+changed_ordered graph change s = after_ordered id_triple_cmp_total id_triple_one id_triple_eq graph change.removed change.inserted s

@@ -63,7 +63,8 @@ impl<'a, L: Ledger> View<'a, L> {
 
     /// The triples that fit a mask, each once, in any order.
     pub fn rows(&self, mask: &IdPattern) -> RowsOf<'a, L>
-        ensures { IsPermutation (filter (fits mask.now) self.now) result }
+        ensures rows { IsPermutation (filter (fits mask.now) self.now) result }
+        ensures ordered { AreOrdered self.now }
     {
         RowsOf {
             mask: *mask,

@@ -6,12 +6,12 @@ use Rattle.triple_index.proofs.change.read_fitting.Goals as goal
 pub returns-in_err-read_rows-clause-reads : goal.returns-in_err-read_rows-clause-reads
 returns-in_err-read_rows-clause-reads g c =
     reads_within c.args.index.now.triples c.args.patterns.now (c.loop-pattern.pattern-index + 1) c.args.steps.now c.read_rows.new.steps
-    (reads_at _ _ _ _ _ _ _ _ _ c.loop-pattern-test.true c.plain-view.ensures c.loop-pattern.invariant.counted c.rows.ensures c.read_rows.ensures.reads)
+    (reads_at _ _ _ _ _ _ _ _ _ c.loop-pattern-test.true c.plain-view.ensures c.loop-pattern.invariant.counted c.rows.ensures.rows c.read_rows.ensures.reads)
 
 pub loop-pattern-preserved : goal.loop-pattern-preserved
 loop-pattern-preserved g c = record {
-  fitting = fitting_at _ _ _ _ _ _ _ _ c.loop-pattern-test.true c.plain-view.ensures c.loop-pattern.invariant.fitting c.rows.ensures c.in_ok-read_rows.ensures.ok;
-  counted = reads_at _ _ _ _ _ _ _ _ _ c.loop-pattern-test.true c.plain-view.ensures c.loop-pattern.invariant.counted c.rows.ensures c.read_rows.ensures.reads;
+  fitting = fitting_at _ _ _ _ _ _ _ _ c.loop-pattern-test.true c.plain-view.ensures c.loop-pattern.invariant.fitting c.rows.ensures.rows c.in_ok-read_rows.ensures.ok;
+  counted = reads_at _ _ _ _ _ _ _ _ _ c.loop-pattern-test.true c.plain-view.ensures c.loop-pattern.invariant.counted c.rows.ensures.rows c.read_rows.ensures.reads;
 }
 
 pub returns-clause-fitting : goal.returns-clause-fitting
