@@ -9,6 +9,3 @@ mod write;
 
 pub use answer::{Answer, Difference};
 pub use laws::{answers_are_told, bodies_are_read_back, causes_refuse, worked_examples};
-
-#[cfg(test)]
-mod tests;

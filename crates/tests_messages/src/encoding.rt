@@ -15,7 +15,8 @@ const CANONICAL: [&[u8]; 4] = [
 ];
 
 /// What stands before and behind the many letters of a long message.
-const BEFORE: &[u8] = b"<SSAP_message><message_type>REQUEST</message_type><transaction_type>JOIN</transaction_type><transaction_id>1</transaction_id><node_id>k</node_id><space_id>X</space_id><parameter name=\"first\">";
+const BEFORE: &[u8] =
+    b"<SSAP_message><message_type>REQUEST</message_type><transaction_type>JOIN</transaction_type><transaction_id>1</transaction_id><node_id>k</node_id><space_id>X</space_id><parameter name=\"first\">";
 
 const BEHIND: &[u8] = b"&gt;</parameter></SSAP_message>";
 

@@ -2,12 +2,20 @@
 #![tactic(auto)]
 
 #[cfg(test)]
+mod bodies;
+#[cfg(test)]
 mod decoding;
+#[cfg(test)]
+mod encoding;
 #[cfg(test)]
 mod items;
 #[cfg(test)]
 mod machine;
 #[cfg(test)]
 mod reading;
+#[cfg(test)]
+mod shapes;
+#[cfg(test)]
+mod spelled;
 #[cfg(test)]
 mod text;
