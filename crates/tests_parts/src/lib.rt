@@ -6,6 +6,8 @@ mod algebra;
 #[cfg(test)]
 mod index;
 #[cfg(test)]
+mod interner;
+#[cfg(test)]
 mod links;
 #[cfg(test)]
 mod outside;

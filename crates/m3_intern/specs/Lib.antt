@@ -1,0 +1,4 @@
+pub mod Interned
+pub mod Inside
+pub mod Tables
+pub mod Laws
