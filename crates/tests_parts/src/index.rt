@@ -125,12 +125,21 @@ fn exchange<L: Ledger>(
     Change::net(alloc, index, &remove, &insert, steps)
 }
 
-/// The first subject of triples.
-fn first_subject(triples: &IdTriples) -> u32 {
+/// The number of triples, and the subject of the first.
+fn outline(triples: &IdTriples) -> (usize, u32) {
     match triples.get(0) {
-        Some(triple) => triple.subject.0,
-        None => 0,
+        Some(triple) => (triples.len(), triple.subject.0),
+        None => (0, 0),
     }
+}
+
+/// The number of triples, and whether two of them are there: the inserted one and the removed one.
+fn outcome(index: &Index) -> (usize, bool, bool) {
+    (
+        index.len(),
+        index.contains(&triple(&[3, 7, 7])),
+        index.contains(&triple(&[1, 4, 5])),
+    )
 }
 
 fn update<L: Ledger>(rt: &impl Abort, alloc: Global, blank: Blank) -> Result<(), NoMemory>
@@ -141,18 +150,14 @@ fn update<L: Ledger>(rt: &impl Abort, alloc: Global, blank: Blank) -> Result<(),
     let mut steps = Steps::<L>::new(blank);
     let mut index = index_of(alloc, &SMALL, &mut steps)?;
     let change = exchange(alloc, &index, &mut steps)?;
-    assert_eq!(rt; change.removed().len(), 1);
-    assert_eq!(rt; first_subject(change.removed()), 1);
-    assert_eq!(rt; change.inserted().len(), 1);
-    assert_eq!(rt; first_subject(change.inserted()), 3);
+    assert_eq!(rt; outline(change.removed()), (1, 1));
+    assert_eq!(rt; outline(change.inserted()), (1, 3));
     let after = View::after(&index, &change);
     let seen = count_rows(&after, &mask(&[0, 0, 0]), &mut steps);
     assert_eq!(rt; seen, 3);
-    index.reserve(1)?;
+    index.reserve(change.inserted().len())?;
     index.apply(&change);
-    assert_eq!(rt; index.len(), 3);
-    assert!(rt; index.contains(&triple(&[3, 7, 7])));
-    assert!(rt; !index.contains(&triple(&[1, 4, 5])));
+    assert_eq!(rt; outcome(&index), (3, true, false));
     Ok(())
 }
 
