@@ -10,8 +10,6 @@ use Rattle.m3_terms.specs.declared.term.Term as term
 use Rattle.m3_terms.specs.declared.pattern.Slot.{Slot}
 use Rattle.m3_terms.specs.declared.pattern.Slot.TheVariants.{Any, Is}
 use Rattle.m3_terms.specs.declared.pattern.Pattern.{Pattern}
-use Rattle.ssap_items.specs.declared.heads.Heads.{Heads}
-use Rattle.ssap_items.specs.declared.heads.Transaction.{Transaction}
 use Rattle.ssap_items.specs.declared.body.Kind.{Kind}
 use Rattle.ssap_items.specs.declared.body.Kind.TheVariants.{Uri, Literal, Bnode}
 use Rattle.ssap_items.specs.declared.body.RawTriple.{RawTriple}
@@ -30,11 +28,11 @@ use Rattle.ssap_shape.specs.declared.request.Ask.{Ask}
 use Rattle.ssap_shape.specs.declared.request.Ask as ask
 use Rattle.ssap_shape.specs.declared.request.Arrived.TheVariants.{Request, Wrong, NotRequest}
 use Rattle.ssap_shape.specs.Table.{is_named, given, is_known}
-use Rattle.ssap_shape.specs.Templates.{is_wildcard, uri_slot, IsSlotOf, IsTemplateOf, is_uri, is_empty, is_long, is_empty_uri, has_empty_uri, has_long_term, triples_in, is_graph, has_bnode}
+use Rattle.ssap_shape.specs.Templates.{is_wildcard, IsSlotOf, IsTemplateOf, is_uri, is_empty, is_long, is_empty_uri, has_empty_uri, has_long_term, triples_in, is_graph, has_bnode}
 use Rattle.ssap_shape.specs.Updates.{is_graph_named, is_foreign, is_wrong_graph, is_wrong_flag}
 use Rattle.ssap_shape.specs.Queries.{language_of, is_query_in, is_wrong_type, is_wrong_query, is_other_type, is_wide_query}
 use Rattle.ssap_shape.specs.Ranks.{is_asking, is_bad_id, is_no_request, is_wrong_param, is_doubled, is_misfilled, is_wrong_number, has_terms, asks_unbuilt, asks_too_much}
-use Rattle.ssap_shape.specs.Shape.{triples_of, AreTemplatesOf, IsTextOf, IsWish, AsksFor, Passes}
+use Rattle.ssap_shape.specs.Shape.{triples_of, IsTextOf, IsWish, AsksFor, Passes}
 use Rattle.ssap_shape.specs.Sound.{IsSoundId, AreSoundHeads, IsSoundSlot, IsUriSlot, IsSoundTemplate, IsSoundWish, IsSoundAsk}
 use Rattle.ssap_shape.specs.Laws.{ShapesAreSound}
 use Rattle.ssap_shape.proofs.Found.{no_first, no_second, three, five, holds_left, holds_right, no_both, not_lacking, clear, passes}
