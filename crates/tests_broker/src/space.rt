@@ -55,11 +55,11 @@ fn request(
     Ok(Arrived::Request(Request { heads, ask }))
 }
 
-// The triple of a lamp that has this state.
-fn lamp(alloc: Global, state: &[u8]) -> Result<Pattern, Fail> {
-    let subject = Slot::Is(Term::uri(alloc, b"lamp")?);
+// That a lamp of this name is on.
+fn lamp(alloc: Global, name: &[u8]) -> Result<Pattern, Fail> {
+    let subject = Slot::Is(Term::uri(alloc, name)?);
     let predicate = Slot::Is(Term::uri(alloc, b"state")?);
-    let object = Slot::Is(Term::literal(alloc, state)?);
+    let object = Slot::Is(Term::literal(alloc, b"on")?);
     Ok(Pattern {
         subject,
         predicate,
@@ -78,7 +78,7 @@ fn insert(alloc: Global, insert: Patterns, confirm: bool) -> Result<Arrived, Fai
 
 fn insert_lamp(alloc: Global, confirm: bool) -> Result<Arrived, Fail> {
     let mut patterns = Patterns::new(alloc);
-    patterns.push(lamp(alloc, b"on")?)?;
+    patterns.push(lamp(alloc, b"lamp")?)?;
     insert(alloc, patterns, confirm)
 }
 
@@ -142,6 +142,13 @@ fn tell(alloc: Global, reply: &Reply) -> Result<String, Fail> {
     Ok(told)
 }
 
+fn message_of(reply: Reply) -> Option<Bytes> {
+    match reply {
+        Reply::Message(message) => Some(message),
+        _ => None,
+    }
+}
+
 /// A space after some calls, what they answered in letters, and the message that was taken last.
 #[derive(Drop)]
 struct Room<L: Ledger> {
@@ -171,14 +178,19 @@ impl<L: Ledger> Room<L> {
         }
         let reply = self.core.step(alloc, rt, call, &mut self.steps)?;
         self.told.push_str(tell(alloc, &reply)?.as_str())?;
-        if let Reply::Message(taken) = reply {
-            self.message = taken;
+        if let Some(message) = message_of(reply) {
+            self.message = message;
         }
         Ok(())
     }
 
     // Calls of two letters each.
-    fn play<R: Threads + Sync>(&mut self, alloc: Global, rt: &R, script: &[u8]) -> Result<(), Fail> {
+    fn play<R: Threads + Sync>(
+        &mut self,
+        alloc: Global,
+        rt: &R,
+        script: &[u8],
+    ) -> Result<(), Fail> {
         for word in script.chunks_exact(2) {
             self.act(alloc, rt, call(alloc, word)?)?;
         }
@@ -197,7 +209,12 @@ impl<L: Ledger> Room<L> {
     }
 
     // So many nodes join.
-    fn join_many<R: Threads + Sync>(&mut self, alloc: Global, rt: &R, count: u32) -> Result<(), Fail> {
+    fn join_many<R: Threads + Sync>(
+        &mut self,
+        alloc: Global,
+        rt: &R,
+        count: u32,
+    ) -> Result<(), Fail> {
         for number in 0..count {
             let node = format!(in alloc; "{number}")?;
             let join = request(alloc, node.as_bytes(), Transaction::Join, Ask::Join)?;
@@ -206,7 +223,7 @@ impl<L: Ledger> Room<L> {
         Ok(())
     }
 
-    // The lamp has so many states more, from this number on.
+    // So many lamps are on, which are numbered from this on.
     fn insert_many<R: Threads + Sync>(
         &mut self,
         alloc: Global,
@@ -216,86 +233,152 @@ impl<L: Ledger> Room<L> {
     ) -> Result<(), Fail> {
         let mut patterns = Patterns::new(alloc);
         for number in 0..count {
-            let state = format!(in alloc; "{}", from.saturating_add(number))?;
-            patterns.push(lamp(alloc, state.as_bytes())?)?;
+            let name = format!(in alloc; "{}", from.saturating_add(number))?;
+            patterns.push(lamp(alloc, name.as_bytes())?)?;
         }
         self.ask(alloc, rt, insert(alloc, patterns, true)?)
     }
 }
 
+// Calls, what they answer, how the message that is taken last ends, and how many updates and triples there are then.
+type Case = (&'static [u8], &'static str, &'static [u8], u64, u64);
+
+const CASES: [Case; 11] = [
+    (b"N.J1T1", "o1d1m", JOINED, 0, 0),
+    (b"N.J1T1I1I1T1", "o1d1md1d1m", INSERTED, 2, 1),
+    (b"N.J1T1L1T1i1T1", "o1d1md1md1m", DENIED, 0, 0),
+    (b"N.J1L1T1T1", "o1d1d1mm", LEFT, 0, 0),
+    (b"N.J1T1i1T1", "o1d1mde", JOINED, 1, 1),
+    (b"N.Q1T1J1T1Q1T1", "o1d1md1md1m", UNBUILT, 0, 0),
+    (b"N.W1T1", "o1d1m", WRONG, 0, 0),
+    (b"N.N.J2T1T2I1T2T1", "o1o2d2emd1em", INSERTED, 1, 1),
+    (b"N.B1B1J1E1X1T1", "o1d1cccdv", b"", 0, 0),
+    (b"J1E1X1T1T0", "nnnnn", b"", 0, 0),
+    (b"N.J1J1X1T1X1J1", "o1d1d1d1vdc", b"", 0, 0),
+];
+
+impl<L: Ledger> Room<L> {
+    fn ends_with(&self, end: &[u8]) -> bool {
+        self.message.as_slice().ends_with(end)
+    }
+
+    fn is_as(&self, case: &Case) -> bool {
+        self.told.as_str() == case.1
+            && self.ends_with(case.2)
+            && self.core.updates() == case.3
+            && self.core.triples() == case.4
+    }
+}
+
+// Whether a new space answers these calls so.
+fn is_answered<R: Threads + Sync, L: Ledger>(
+    alloc: Global,
+    rt: &R,
+    blank: Blank,
+    case: &Case,
+) -> Result<bool, Fail>
+    requires name { blank.name ≡ L.name }
+    requires parts { blank.parts ≡ L.parts }
+    requires some { 0 < L.parts }
+{
+    let mut room = Room::<L>::new(alloc, blank)?;
+    room.play(alloc, rt, case.0)?;
+    Ok(room.is_as(case))
+}
+
 #[test]
 fn calls_are_answered(rt: HostRuntime) -> Result<(), Fail> {
-    let cases: [(&[u8], &str, &[u8], u64, u64); 11] = [
-        (b"N.J1T1", "o1d1m", JOINED, 0, 0),
-        (b"N.J1T1I1I1T1", "o1d1md1d1m", INSERTED, 2, 1),
-        (b"N.J1T1L1T1i1T1", "o1d1md1md1m", DENIED, 0, 0),
-        (b"N.J1L1T1T1", "o1d1d1mm", LEFT, 0, 0),
-        (b"N.J1T1i1T1", "o1d1mde", JOINED, 1, 1),
-        (b"N.Q1T1J1T1Q1T1", "o1d1md1md1m", UNBUILT, 0, 0),
-        (b"N.W1T1", "o1d1m", WRONG, 0, 0),
-        (b"N.N.J2T1T2I1T2T1", "o1o2d2emd1em", INSERTED, 1, 1),
-        (b"N.B1B1J1E1X1T1", "o1d1cccdv", b"", 0, 0),
-        (b"J1E1X1T1T0", "nnnnn", b"", 0, 0),
-        (b"N.J1J1X1T1X1J1", "o1d1d1d1vdc", b"", 0, 0),
-    ];
-    for (script, told, message, updates, triples) in &cases {
-        let mut room = Room::<Brand>::new(rt.alloc(), Blank::new(1))?;
-        room.play(rt.alloc(), &rt, script)?;
-        assert!(rt; room.told.as_str() == *told);
-        assert!(rt; room.message.as_slice().ends_with(message));
-        assert_eq!(rt; (room.core.updates(), room.core.triples()), (*updates, *triples));
+    let cases: &[Case] = &CASES;
+    for case in cases {
+        assert!(rt; is_answered::<HostRuntime, Brand>(rt.alloc(), &rt, Blank::new(1), case)?);
     }
     Ok(())
 }
 
 fn lamp_is_on(alloc: Global) -> Result<Triple, Fail> {
-    Ok(lamp(alloc, b"on")?.into_triple().ok_or("no triple")?)
+    Ok(lamp(alloc, b"lamp")?.into_triple().ok_or("no triple")?)
+}
+
+// A new space after calls of two letters each.
+fn core_after<R: Threads + Sync, L: Ledger>(
+    alloc: Global,
+    rt: &R,
+    blank: Blank,
+    script: &[u8],
+) -> Result<Core, Fail>
+    requires name { blank.name ≡ L.name }
+    requires parts { blank.parts ≡ L.parts }
+    requires some { 0 < L.parts }
+{
+    let mut room = Room::<L>::new(alloc, blank)?;
+    room.play(alloc, rt, script)?;
+    Ok(room.core)
 }
 
 #[test]
 fn a_space_is_asked_without_a_call(rt: HostRuntime) -> Result<(), Fail> {
     let lamp = lamp_is_on(rt.alloc())?;
-    let mut room = Room::<Brand>::new(rt.alloc(), Blank::new(1))?;
-    assert!(rt; !room.core.contains(&lamp));
-    room.play(rt.alloc(), &rt, b"N.J1I1")?;
-    assert!(rt; room.core.contains(&lamp));
-    assert!(rt; room.core.name().as_bytes() == b"X".as_slice());
-    assert_eq!(rt; (room.core.count(), room.core.subscriptions()), (3, 0));
-    assert_eq!(rt; room.core.waiting(1), 2);
-    assert_eq!(rt; room.core.link_state(1), LinkState::Open);
-    assert_eq!(rt; room.core.link_state(2), LinkState::Never);
+    let core = core_after::<HostRuntime, Brand>(rt.alloc(), &rt, Blank::new(1), b"N.J1I1")?;
+    assert!(rt; core.contains(&lamp));
+    assert!(rt; core.name().as_bytes() == b"X".as_slice());
+    assert_eq!(rt;
+        (core.count(), core.subscriptions(), core.waiting(1)),
+        (3, 0, 2)
+    );
+    assert_eq!(rt; core.link_state(1), LinkState::Open);
+    assert!(rt; !Core::new(rt.alloc(), Text::read(rt.alloc(), b"X")?).contains(&lamp));
     Ok(())
+}
+
+// Whether 4,096 nodes join, another does not, and one of them joins again.
+fn nodes_are_limited<R: Threads + Sync, L: Ledger>(
+    alloc: Global,
+    rt: &R,
+    blank: Blank,
+) -> Result<bool, Fail>
+    requires name { blank.name ≡ L.name }
+    requires parts { blank.parts ≡ L.parts }
+    requires some { 0 < L.parts }
+{
+    let mut room = Room::<L>::new(alloc, blank)?;
+    room.act(alloc, rt, Call::NewLink)?;
+    room.join_many(alloc, rt, NODE_LIMIT as u32)?;
+    let last = room.ends_with(SUCCESS);
+    room.play(alloc, rt, b"J1T1")?;
+    let another = room.ends_with(OVER);
+    room.join_many(alloc, rt, 1)?;
+    Ok(last && another && room.ends_with(SUCCESS))
 }
 
 #[test]
 fn no_node_joins_beside_4096(rt: HostRuntime) -> Result<(), Fail> {
-    let alloc = rt.alloc();
-    let mut room = Room::<Brand>::new(alloc, Blank::new(1))?;
-    room.act(alloc, &rt, Call::NewLink)?;
-    room.join_many(alloc, &rt, NODE_LIMIT as u32)?;
-    assert!(rt; room.message.as_slice().ends_with(SUCCESS));
-    room.play(alloc, &rt, b"J1T1")?;
-    assert!(rt; room.message.as_slice().ends_with(OVER));
-    room.join_many(alloc, &rt, 1)?;
-    assert!(rt; room.message.as_slice().ends_with(SUCCESS));
+    assert!(rt; nodes_are_limited::<HostRuntime, Brand>(rt.alloc(), &rt, Blank::new(1))?);
     Ok(())
+}
+
+// Whether 262,144 triples are inserted, and another is not.
+fn triples_are_limited<R: Threads + Sync, L: Ledger>(
+    alloc: Global,
+    rt: &R,
+    blank: Blank,
+) -> Result<bool, Fail>
+    requires name { blank.name ≡ L.name }
+    requires parts { blank.parts ≡ L.parts }
+    requires some { 0 < L.parts }
+{
+    let mut room = Room::<L>::new(alloc, blank)?;
+    room.play(alloc, rt, b"N.J1T1")?;
+    for batch in 0..256 {
+        room.insert_many(alloc, rt, 1_000_000 + batch * BATCH, BATCH)?;
+    }
+    let last = room.ends_with(SUCCESS) && room.core.triples() == TRIPLE_LIMIT as u64;
+    room.insert_many(alloc, rt, 2_000_000, 1)?;
+    Ok(last && room.ends_with(OVER) && room.core.triples() == TRIPLE_LIMIT as u64)
 }
 
 #[test]
 fn no_triple_is_inserted_beside_262144(rt: HostRuntime) -> Result<(), Fail> {
-    let alloc = rt.alloc();
-    let mut room = Room::<Brand>::new(alloc, Blank::new(1))?;
-    room.play(alloc, &rt, b"N.J1T1")?;
-    let mut from = 1_000_000;
-    for _ in 0..TRIPLE_LIMIT as u32 / BATCH {
-        room.insert_many(alloc, &rt, from, BATCH)?;
-        from = BATCH.saturating_add(from);
-    }
-    assert!(rt; room.message.as_slice().ends_with(SUCCESS));
-    assert_eq!(rt; room.core.triples(), TRIPLE_LIMIT as u64);
-    room.insert_many(alloc, &rt, from, 1)?;
-    assert!(rt; room.message.as_slice().ends_with(OVER));
-    assert_eq!(rt; (room.core.updates(), room.core.triples()), (256, TRIPLE_LIMIT as u64));
+    assert!(rt; triples_are_limited::<HostRuntime, Brand>(rt.alloc(), &rt, Blank::new(1))?);
     Ok(())
 }
 
