@@ -5,7 +5,7 @@ ghost use Rattle.std.specs.Prelude.{◌≡◌, ◌<◌};
 
 use m3_terms::Steps;
 use sib_app::sib_run;
-use sib_io::{Sink, Source, StdSink, StdSource};
+use sib_io::{GatheredSink, Sink, Source, StdSource};
 use std::alloc::Global;
 use std::env;
 use std::io::{self, ErrorKind};
@@ -18,7 +18,7 @@ use std::thread::Threads;
 /// The status where the words are no form.
 const BAD_WORDS: u8 = 2;
 
-/// The status where the system gave no memory.
+/// The status out of memory.
 const NO_MEMORY: u8 = 6;
 
 fn main(rt: HostRuntime) -> ExitCode {
@@ -27,7 +27,9 @@ fn main(rt: HostRuntime) -> ExitCode {
         Err(fault) => return ExitCode::from(refusal(fault.kind())),
     };
     let mut source = StdSource::new(rt.reader());
-    let mut sink = StdSink::new(io::writer(&rt));
+    let Ok(mut sink) = GatheredSink::new(rt.alloc(), io::writer(&rt)) else {
+        return ExitCode::from(NO_MEMORY);
+    };
     let status = counted::<_, _, _, Brand>(
         rt.alloc(),
         &rt,

@@ -1,8 +1,7 @@
 -- What a call of an event does to a space in which no message waits.
-use Rattle.std.proofs.Common.{◌≡◌, ◌≢◌, ◌∙◌, ap, sym, refl, subst, arith, ℕ, ◌+◌, ◌≤◌, Bool, true, false, cond, ◌&&◌, ◌||◌, not, nat_lt, List, [], ◌∷◌, ◌++◌, length, replicate, Option, Some, None, append-nil, ⊎_elim}
+use Rattle.std.proofs.Common.{◌≡◌, ◌≢◌, ◌∙◌, ap, sym, refl, subst, arith, ℕ, ◌+◌, Bool, true, false, cond, ◌&&◌, ◌||◌, not, nat_lt, List, [], ◌∷◌, ◌++◌, length, replicate, Option, Some, None, append-nil, ⊎_elim}
 use Rattle.std.proofs.lemmas.Bool.{false≢true, cases_eq, lt-ltb}
-use Rattle.std.proofs.lemmas.List.{length-replicate}
-use Rattle.link_table.specs.Links.{Link, new_link, is_open, is_full, fits, counted, closed_link, with_message, sent, ended, lost, link_at, changed, state_of, state_or_never, pending_of, pending_or_none}
+use Rattle.link_table.specs.Links.{Link, new_link, is_open, is_full, counted, closed_link, sent, ended, lost, link_at, changed, state_of, state_or_never, pending_of, pending_or_none}
 use Rattle.link_table.specs.declared.state.LinkState.{LinkState}
 use Rattle.link_table.specs.declared.state.LinkState as state
 use Rattle.ssap_shape.specs.declared.request.Arrived.{Arrived}
@@ -93,34 +92,6 @@ leaves_both link a b c l m = record {
   others = λ other apart. m.others other apart ∙ l.others other apart;
 }
 
--- a change after which one message waits at most
-abbrev pub IsSlight : (Link → Link) → Type 0
-IsSlight change = (link : Link) → link.pending ≡ [] → length (change link).pending ≤ 1
-
-ended_slight : IsSlight ended
-ended_slight l none = by_open (is_open l.state)
-  where
-    closed : (p : List (List ℕ)) → p ≡ [] → length (closed_link state.TheVariants.Ended p).pending ≤ 1
-    closed p e = subst (λ q. length (closed_link state.TheVariants.Ended q).pending ≤ 1) (sym e) (omega arith)
-
-    by_open : (b : Bool) → length (cond b (closed_link state.TheVariants.Ended l.pending) l).pending ≤ 1
-    by_open true = closed l.pending none
-    by_open false = subst (λ q. length q ≤ 1) (sym none) (omega arith)
-
-sent_slight : (message : List ℕ) → IsSlight (sent message)
-sent_slight message l none = by_open (is_open l.state)
-  where
-    by_fit : (b : Bool) → length (cond b (record l { pending = l.pending ++ message ∷ [] }) (closed_link state.TheVariants.Overrun l.pending)).pending ≤ 1
-    by_fit true = subst (λ q. length (q ++ message ∷ []) ≤ 1) (sym none) (omega arith)
-    by_fit false = subst (λ q. length (closed_link state.TheVariants.Overrun q).pending ≤ 1) (sym none) (omega arith)
-
-    by_open : (b : Bool) → length (cond b (with_message message l) l).pending ≤ 1
-    by_open true = by_fit (fits (l.pending ++ message ∷ []))
-    by_open false = subst (λ q. length q ≤ 1) (sym none) (omega arith)
-
-still_slight : IsSlight (λ l. l)
-still_slight l none = subst (λ q. length q ≤ 1) (sym none) (omega arith)
-
 -- a link that isn't told, though it is open, has no message more
 unrung : (l x : Link) → is_open l.state ≡ true → l.pending ≡ [] → is_rung l x ≡ false → x.pending ≡ []
 unrung l x on none e = by_pending x.pending (is_open x.state)
@@ -137,7 +108,7 @@ open_some links link h = link_or_none ((l : Link) × (link_at links link ≡ Som
     (λ none. absurd (false≢true (sym (ap (λ o. is_open (state_or_never o)) none) ∙ h)))
     (λ l some. (l, some, sym (ap (λ o. is_open (state_or_never o)) some) ∙ h))
 
-module _ (old new : Space) (link : ℕ) (call : Call) (change : Link → Link) (drained : IsDrained old) (slight : IsSlight change) (before : Link) (at : link_at old.links link ≡ Some before)
+module _ (old new : Space) (link : ℕ) (call : Call) (change : Link → Link) (drained : IsDrained old) (before : Link) (at : link_at old.links link ≡ Some before)
     (on : is_open before.state ≡ true) (links : new.links ≡ changed change old.links link) (is : step old call ≡ told old new) where
   -- no message waits on the link
   none_before : before.pending ≡ []
@@ -161,47 +132,37 @@ module _ (old new : Space) (link : ℕ) (call : Call) (change : Link → Link) (
   rung = ap (ring old.links) links ∙ ring_changed change old.links link before at
 
   -- all that waits on the link is taken, or nothing waits
-  taken_all : (length (calls_with old (Some call)) ≡ 1 + length (change before).pending) × (run_from old (calls_with old (Some call)) ≡ run_from new (all_of new link))
+  taken_all : run_from old (calls_with old (Some call)) ≡ run_from new (all_of new link)
   taken_all = go (is_rung before (change before)) refl
     where
       waits : pending_of new.links link ≡ (change before).pending
       waits = ap pending_or_none here
 
-      go : (b : Bool) → is_rung before (change before) ≡ b → (length (calls_with old (Some call)) ≡ 1 + length (change before).pending) × (run_from old (calls_with old (Some call)) ≡ run_from new (all_of new link))
+      go : (b : Bool) → is_rung before (change before) ≡ b → run_from old (calls_with old (Some call)) ≡ run_from new (all_of new link)
       go true e =
           let told_one : takes new (ring old.links new.links) ≡ all_of new link = ap (takes new) (rung ∙ ap (λ b. cond b (link ∷ []) []) e) ∙ append-nil (all_of new link) in
-          let count : length (all_of new link) ≡ length (pending_of new.links link) = length-replicate (length (pending_of new.links link)) (Take link) in (
-            ap (λ (s : Step). length (call ∷ takes s.space (ring_of s.reply))) is ∙ ap (λ l. length (call ∷ l)) told_one ∙ omega (arith, count, ap length waits),
-            runs ∙ ap (run_from new) told_one,
-          )
+          runs ∙ ap (run_from new) told_one
       go false e =
           let told_none : takes new (ring old.links new.links) ≡ [] = ap (takes new) (rung ∙ ap (λ b. cond b (link ∷ []) []) e) in
-          let none : (change before).pending ≡ [] = unrung before (change before) on none_before e in (
-            ap (λ (s : Step). length (call ∷ takes s.space (ring_of s.reply))) is ∙ ap (λ l. length (call ∷ l)) told_none ∙ omega (arith, ap length none),
-            runs ∙ ap (run_from new) told_none ∙ ap (λ l. run_from new (replicate (length l) (Take link))) (sym (waits ∙ none)),
-          )
+          let none : (change before).pending ≡ [] = unrung before (change before) on none_before e in
+          runs ∙ ap (run_from new) told_none ∙ ap (λ l. run_from new (replicate (length l) (Take link))) (sym (waits ∙ none))
 
-  pub told_leaves : Leaves link old (run_from old (calls_with old (Some call))) × (length (calls_with old (Some call)) ≤ 2)
-  told_leaves =
-      let few = slight before none_before in (
-        subst (Leaves link old) (sym taken_all.1) (record {
-          drained = λ other. ⊎_elim (λ same. subst (λ n. pending_of (run_from new (all_of new link)).links n ≡ []) same (all_gone new link))
-              (λ apart. ap pending_or_none (all_others new link other apart ∙ elsewhere other apart) ∙ drained other) (cases_eq link other);
-          opened = all_length new link ∙ as_many;
-          others = λ other apart. all_others new link other apart ∙ elsewhere other apart;
-        }),
-        omega (arith, taken_all.0, few),
-      )
+  pub told_leaves : Leaves link old (run_from old (calls_with old (Some call)))
+  told_leaves = subst (Leaves link old) (sym taken_all) (record {
+    drained = λ other. ⊎_elim (λ same. subst (λ n. pending_of (run_from new (all_of new link)).links n ≡ []) same (all_gone new link))
+        (λ apart. ap pending_or_none (all_others new link other apart ∙ elsewhere other apart) ∙ drained other) (cases_eq link other);
+    opened = all_length new link ∙ as_many;
+    others = λ other apart. all_others new link other apart ∙ elsewhere other apart;
+  })
 
 -- a call that changes nothing
 same_leaves : (space : Space) (link : ℕ) (call : Call) (reply : Reply) → IsDrained space → step space call ≡ unchanged space reply → ring_of reply ≡ []
-    → Leaves link space (run_from space (calls_with space (Some call))) × (length (calls_with space (Some call)) ≤ 2)
+    → Leaves link space (run_from space (calls_with space (Some call)))
 same_leaves space link call reply drained is none =
     let runs : run_from space (calls_with space (Some call)) ≡ space =
     ap (λ (s : Step). run_from s.space (takes s.space (ring_of s.reply))) is ∙ ap (λ l. run_from space (takes space l)) none
     in
-    let one : length (calls_with space (Some call)) ≡ 1 = ap (λ (s : Step). length (call ∷ takes s.space (ring_of s.reply))) is ∙ ap (λ l. length (call ∷ takes space l)) none in
-    (subst (Leaves link space) (sym runs) (leaves_same link space drained), omega (arith, one))
+    subst (Leaves link space) (sym runs) (leaves_same link space drained)
 
 -- what a request does leaves the links
 granted_links : (space : Space) (heads : Heads) (ask : Ask) → (granted space heads ask).links ≡ space.links
@@ -218,35 +179,35 @@ done_links space request =
     [ true ↦ granted_links space request.heads request.ask | false ↦ refl ]
 
 -- what comes on an open link changes this link alone
-delivered_links : (space : Space) (link : ℕ) (arrived : Arrived) → (change : Link → Link) × IsSlight change × ((delivered space link arrived).links ≡ changed change space.links link)
-delivered_links space link arrived.TheVariants.NotRequest = (ended, ended_slight, refl)
-delivered_links space link (arrived.TheVariants.Wrong heads status) = (sent (confirm heads (wrong_status space heads status)), sent_slight (confirm heads (wrong_status space heads status)), refl)
+delivered_links : (space : Space) (link : ℕ) (arrived : Arrived) → (change : Link → Link) × ((delivered space link arrived).links ≡ changed change space.links link)
+delivered_links space link arrived.TheVariants.NotRequest = (ended, refl)
+delivered_links space link (arrived.TheVariants.Wrong heads status) = (sent (confirm heads (wrong_status space heads status)), refl)
 delivered_links space link (arrived.TheVariants.Request request) = by_confirm (confirm_due space request)
   where
-    by_confirm : (o : Option (List ℕ)) → (change : Link → Link) × IsSlight change × ((queue (done space request) link o).links ≡ changed change space.links link)
-    by_confirm None = ((λ l. l), still_slight, done_links space request ∙ sym (changed_still space.links link))
-    by_confirm (Some message) = (sent message, sent_slight message, ap (λ ls. changed (sent message) ls link) (done_links space request))
+    by_confirm : (o : Option (List ℕ)) → (change : Link → Link) × ((queue (done space request) link o).links ≡ changed change space.links link)
+    by_confirm None = ((λ l. l), done_links space request ∙ sym (changed_still space.links link))
+    by_confirm (Some message) = (sent message, ap (λ ls. changed (sent message) ls link) (done_links space request))
 
 -- a call for an open link
-on_open_leaves : (space new : Space) (link : ℕ) (call : Call) (change : Link → Link) → IsDrained space → IsSlight change → new.links ≡ changed change space.links link
-    → step space call ≡ on_open (state_of space.links link) space new → Leaves link space (run_from space (calls_with space (Some call))) × (length (calls_with space (Some call)) ≤ 2)
-on_open_leaves space new link call change drained slight links is = go (state_of space.links link) refl
+on_open_leaves : (space new : Space) (link : ℕ) (call : Call) (change : Link → Link) → IsDrained space → new.links ≡ changed change space.links link
+    → step space call ≡ on_open (state_of space.links link) space new → Leaves link space (run_from space (calls_with space (Some call)))
+on_open_leaves space new link call change drained links is = go (state_of space.links link) refl
   where
-    go : (kind : LinkState) → state_of space.links link ≡ kind → Leaves link space (run_from space (calls_with space (Some call))) × (length (calls_with space (Some call)) ≤ 2)
+    go : (kind : LinkState) → state_of space.links link ≡ kind → Leaves link space (run_from space (calls_with space (Some call)))
     go state.TheVariants.Never e = same_leaves space link call NoLink drained (is ∙ ap (λ k. on_open k space new) e) refl
-    go state.TheVariants.Open e = let l = open_some space.links link (ap is_open e) in told_leaves space new link call change drained slight l.0 l.1 l.2 links (is ∙ ap (λ k. on_open k space new) e)
+    go state.TheVariants.Open e = let l = open_some space.links link (ap is_open e) in told_leaves space new link call change drained l.0 l.1 l.2 links (is ∙ ap (λ k. on_open k space new) e)
     go state.TheVariants.Ended e = same_leaves space link call Closed drained (is ∙ ap (λ k. on_open k space new) e) refl
     go state.TheVariants.Overrun e = same_leaves space link call Closed drained (is ∙ ap (λ k. on_open k space new) e) refl
     go state.TheVariants.Gone e = same_leaves space link call Closed drained (is ∙ ap (λ k. on_open k space new) e) refl
 
 pub deliver_leaves : (space : Space) (link : ℕ) (arrived : Arrived) → IsDrained space
-    → Leaves link space (run_from space (calls_with space (Some (Deliver link arrived)))) × (length (calls_with space (Some (Deliver link arrived))) ≤ 2)
+    → Leaves link space (run_from space (calls_with space (Some (Deliver link arrived))))
 deliver_leaves space link arrived drained =
-    let (change, slight, links) = delivered_links space link arrived in
-    on_open_leaves space (delivered space link arrived) link (Deliver link arrived) change drained slight links refl
+    let (change, links) = delivered_links space link arrived in
+    on_open_leaves space (delivered space link arrived) link (Deliver link arrived) change drained links refl
 
-pub end_leaves : (space : Space) (link : ℕ) → IsDrained space → Leaves link space (run_from space (calls_with space (Some (End link)))) × (length (calls_with space (Some (End link))) ≤ 2)
-end_leaves space link drained = on_open_leaves space (with_links space (changed ended space.links link)) link (End link) ended drained ended_slight refl refl
+pub end_leaves : (space : Space) (link : ℕ) → IsDrained space → Leaves link space (run_from space (calls_with space (Some (End link))))
+end_leaves space link drained = on_open_leaves space (with_links space (changed ended space.links link)) link (End link) ended drained refl refl
 
 -- a link whose input ended is open no more
 pub end_closes : (space : Space) (link : ℕ) → IsDrained space → is_open (state_of space.links link) ≡ true
@@ -260,7 +221,7 @@ end_closes space link drained on =
     ap (λ b. cond b (closed_link state.TheVariants.Ended l.pending) l) (open_some space.links link on).2 ∙ ap (closed_link state.TheVariants.Ended) none
     in
     let at : link_at new.links link ≡ Some (record { state = state.TheVariants.Gone; pending = [] }) = at_changed ended space.links link l (open_some space.links link on).1 ∙ ap Some gone in
-    let runs = (taken_all space new link (End link) ended drained ended_slight l (open_some space.links link on).1 (open_some space.links link on).2 refl is).1 in
+    let runs = (taken_all space new link (End link) ended drained l (open_some space.links link on).1 (open_some space.links link on).2 refl is) in
     ap (λ (s : Space). is_open (state_of s.links link)) (runs ∙ ap (λ o. run_from new (replicate (length (pending_or_none o)) (Take link))) at) ∙ ap (λ o. is_open (state_or_never o)) at
   where
     opened : (kind : LinkState) → is_open kind ≡ true → on_open kind space (with_links space (changed ended space.links link)) ≡ told space (with_links space (changed ended space.links link))
@@ -272,24 +233,21 @@ end_closes space link drained on =
 
 -- a link that opens, or not
 module _ (space : Space) where
-  pub opens_not : is_full space.links ≡ true → (run_from space (calls_with space (Some NewLink)) ≡ space) × (opened_in (step space NewLink).reply ≡ None) × (length (calls_with space (Some NewLink)) ≡ 1)
+  pub opens_not : is_full space.links ≡ true → (run_from space (calls_with space (Some NewLink)) ≡ space) × (opened_in (step space NewLink).reply ≡ None)
   opens_not full =
       let is : step space NewLink ≡ unchanged space (TooManyLinks (counted space.links)) =
       ap (λ b. cond b (unchanged space (TooManyLinks (counted space.links))) (record { space = with_links space (space.links ++ new_link ∷ []); reply = Opened (length space.links + 1) })) full
       in (
         ap (λ (s : Step). run_from s.space (takes s.space (ring_of s.reply))) is,
         ap (λ (s : Step). opened_in s.reply) is,
-        ap (λ (s : Step). length (NewLink ∷ takes s.space (ring_of s.reply))) is,
       )
 
   pub opens : is_full space.links ≡ false
       → (run_from space (calls_with space (Some NewLink)) ≡ with_links space (space.links ++ new_link ∷ [])) × (opened_in (step space NewLink).reply ≡ Some (length space.links + 1))
-      × (length (calls_with space (Some NewLink)) ≡ 1)
   opens free =
       let is : step space NewLink ≡ record { space = with_links space (space.links ++ new_link ∷ []); reply = Opened (length space.links + 1) } =
       ap (λ b. cond b (unchanged space (TooManyLinks (counted space.links))) (record { space = with_links space (space.links ++ new_link ∷ []); reply = Opened (length space.links + 1) })) free
       in (
         ap (λ (s : Step). run_from s.space (takes s.space (ring_of s.reply))) is,
         ap (λ (s : Step). opened_in s.reply) is,
-        ap (λ (s : Step). length (NewLink ∷ takes s.space (ring_of s.reply))) is,
       )

@@ -1,16 +1,23 @@
 -- What events do to a space, and to what is known of its links.
-use Rattle.std.proofs.Common.{◌≡◌, ◌≢◌, ◌∙◌, ap, sym, refl, subst, arith, ℕ, ◌+◌, ◌≤◌, ◌==◌, Bool, true, false, cond, List, [], ◌∷◌, ◌++◌, length, Some, None, append_assoc, append-nil, inl, inr}
+use Rattle.std.proofs.Common.{◌≡◌, ◌≢◌, ◌∙◌, ap, sym, refl, subst, arith, ℕ, ◌+◌, ◌==◌, Bool, true, false, cond, List, [], ◌∷◌, ◌++◌, length, Option, Some, None, append_assoc, append-nil, inl, inr, ⊎_elim}
 use Rattle.std.specs.List.{AllByRecursion}
+use Rattle.std.specs.Prelude.{nat_le}
+use Rattle.std.proofs.lemmas.Bool.{cases_eq}
 use Rattle.std.proofs.lemmas.Bool.Decides.{eqb_tells}
+use Rattle.link_table.specs.Links.{Link, new_link, is_full, pending_of, pending_or_none}
 use Rattle.std.proofs.lemmas.Grind.{flat_map-append}
 use Rattle.std.proofs.lemmas.List.Sums.{sum_by-append, sum_by-cons}
 use Rattle.ssap_grammar.specs.Stream.{Placed}
 use Rattle.session_core.specs.Space.{Space, empty_space}
 use Rattle.session_core.specs.Runs.{run_from, run}
-use Rattle.sib_app.specs.Output.{Event, Opens, Hears, Arrives, Stops, Ends, Closed, calls_at, calls_from, history, space_from, space_after, is_open_after, brought_on, arrives_on, heard, arrived_on, answer, answers_after, event_lines, GoesOn, AreArrived}
+use Rattle.sib_app.specs.Output.{Event, Opens, Hears, Arrives, Stops, Ends, Closed, calls_at, calls_from, history, space_from, space_after, is_open_after, brought_on, arrives_on, heard, arrived_on, answer, answers_after, event_lines, event_rows, rows_from, rows_after, GoesOn, AreArrived}
 use Rattle.sib_app.specs.Session.{IsDrained}
-use Rattle.sib_app.proofs.TakeLemmas.{run_from-append}
-use Rattle.sib_app.proofs.CallLemmas.{Leaves, leaves_same, leaves_both, deliver_leaves, end_leaves}
+use Rattle.session_core.specs.Reads.{costs}
+use Rattle.sib_app.specs.Doing.{Seen, Does, DoesPart}
+use Rattle.sib_app.proofs.DoingLemmas.{does_both, does_as, part_more, then_part}
+use Rattle.sib_app.proofs.TakeLemmas.{run_from-append, costs-append}
+use Rattle.sib_app.proofs.LinkLemmas.{at_opened, at_before}
+use Rattle.sib_app.proofs.CallLemmas.{Leaves, leaves_same, leaves_both, deliver_leaves, end_leaves, opens, opens_not}
 
 -- numbers that differ are told apart
 pub ne-eqb : (a b : ℕ) → a ≢ b → (a == b) ≡ false
@@ -47,23 +54,46 @@ IsOf link (Stops other why) = other ≡ link
 IsOf link (Ends other) = other ≡ link
 IsOf link (Closed other) = other ≡ link
 
--- it leaves the other links as they were, and makes two calls at most
-pub event_leaves : (space : Space) (link : ℕ) (v : Event) → IsDrained space → IsOf link v → Leaves link space (run_from space (calls_at space v)) × (length (calls_at space v) ≤ 2)
+-- it leaves the other links as they were
+pub event_leaves : (space : Space) (link : ℕ) (v : Event) → IsDrained space → IsOf link v → Leaves link space (run_from space (calls_at space v))
 event_leaves space link Opens drained h = absurd h
-event_leaves space link (Hears other bytes) drained h = (leaves_same link space drained, omega arith)
+event_leaves space link (Hears other bytes) drained h = leaves_same link space drained
 event_leaves space link (Arrives other place arrived) drained h =
-    subst (λ n. Leaves n space (run_from space (calls_at space (Arrives other place arrived))) × (length (calls_at space (Arrives other place arrived)) ≤ 2)) h (deliver_leaves space other arrived drained)
-event_leaves space link (Stops other why) drained h =
-    subst (λ n. Leaves n space (run_from space (calls_at space (Stops other why))) × (length (calls_at space (Stops other why)) ≤ 2)) h (end_leaves space other drained)
-event_leaves space link (Ends other) drained h =
-    subst (λ n. Leaves n space (run_from space (calls_at space (Ends other))) × (length (calls_at space (Ends other)) ≤ 2)) h (end_leaves space other drained)
-event_leaves space link (Closed other) drained h = (leaves_same link space drained, omega arith)
+    subst (λ n. Leaves n space (run_from space (calls_at space (Arrives other place arrived)))) h (deliver_leaves space other arrived drained)
+event_leaves space link (Stops other why) drained h = subst (λ n. Leaves n space (run_from space (calls_at space (Stops other why)))) h (end_leaves space other drained)
+event_leaves space link (Ends other) drained h = subst (λ n. Leaves n space (run_from space (calls_at space (Ends other)))) h (end_leaves space other drained)
+event_leaves space link (Closed other) drained h = leaves_same link space drained
+
+-- no message waits behind an event where none did before
+event_drained : (space : Space) (v : Event) → IsDrained space → IsDrained (run_from space (calls_at space v))
+event_drained space Opens drained = go (is_full space.links) refl
+  where
+    go : (full : Bool) → is_full space.links ≡ full → IsDrained (run_from space (calls_at space Opens))
+    go true e = subst IsDrained (sym (opens_not space e).0) drained
+    go false e =
+        subst IsDrained (sym (opens space e).0)
+        (λ link. ⊎_elim (λ same. subst (λ n. pending_of (space.links ++ new_link ∷ []) n ≡ []) same (ap pending_or_none (at_opened space.links)))
+        (λ apart. ap pending_or_none (at_before space.links link (λ e. apart (sym e))) ∙ drained link) (cases_eq (length space.links + 1) link))
+event_drained space (Hears link bytes) drained = drained
+event_drained space (Arrives link place arrived) drained = (deliver_leaves space link arrived drained).drained
+event_drained space (Stops link why) drained = (end_leaves space link drained).drained
+event_drained space (Ends link) drained = (end_leaves space link drained).drained
+event_drained space (Closed link) drained = drained
+
+-- nor behind any events
+drained_from : (space : Space) (events : List Event) → IsDrained space → IsDrained (space_from space events)
+drained_from space [] drained = drained
+drained_from space (v ∷ events) drained = drained_from (run_from space (calls_at space v)) events (event_drained space v drained)
+
+pub space_drained : (name : List ℕ) (events : List Event) → IsDrained (space_after name events)
+space_drained name events = drained_from (empty_space name) events
+    (λ link. ap pending_or_none (elim (nat_le 1 link) as (λ b. ◌≡◌ {A = Option Link} (cond b None None) None) [ true ↦ refl | false ↦ refl ]))
 
 -- so do more
 events_leave_from : (space : Space) (link : ℕ) (events : List Event) → IsDrained space → AllByRecursion (IsOf link) events → Leaves link space (space_from space events)
 events_leave_from space link [] drained h = leaves_same link space drained
 events_leave_from space link (v ∷ events) drained h =
-    let first = (event_leaves space link v drained h.0).0 in
+    let first = event_leaves space link v drained h.0 in
     leaves_both link space (run_from space (calls_at space v)) (space_from (run_from space (calls_at space v)) events) first
     (events_leave_from (run_from space (calls_at space v)) link events first.drained h.1)
 
@@ -145,3 +175,57 @@ answers_after-append name before (v ∷ vs) ws =
 -- and for one more
 pub answers-push : (name : List ℕ) (before vs : List Event) (v : Event) → answers_after name before (vs ++ v ∷ []) ≡ answers_after name before vs ++ event_lines (space_after name (before ++ vs)) v
 answers-push name before vs v = answers_after-append name before vs (v ∷ []) ∙ ap (λ l. answers_after name before vs ++ l) (append-nil (answer name (before ++ vs) v))
+
+-- the rows of some events and then of more
+rows_from-append : (space : Space) (vs ws : List Event) → rows_from space (vs ++ ws) ≡ rows_from space vs + rows_from (space_from space vs) ws
+rows_from-append space [] ws = omega arith
+rows_from-append space (v ∷ vs) ws =
+    let next : Space = run_from space (calls_at space v) in
+    let all = costs-append space (calls_at space v) (calls_from next (vs ++ ws)) in
+    let first = costs-append space (calls_at space v) (calls_from next vs) in
+    let others = rows_from-append next vs ws in
+    omega (arith, all, first, others)
+
+pub rows_after-append : (name : List ℕ) (before vs ws : List Event) → rows_after name before (vs ++ ws) ≡ rows_after name before vs + rows_after name (before ++ vs) ws
+rows_after-append name before vs ws =
+    rows_from-append (space_after name before) vs ws ∙ ap (λ s. rows_after name before vs + rows_from s ws) (sym (space-append name before vs))
+
+-- and of one more
+pub rows-push : (name : List ℕ) (before vs : List Event) (v : Event) → rows_after name before (vs ++ v ∷ []) ≡ rows_after name before vs + event_rows (space_after name (before ++ vs)) v
+rows-push name before vs v =
+    rows_after-append name before vs (v ∷ [])
+    ∙ ap (λ l. rows_after name before vs + costs (space_after name (before ++ vs)) l) (append-nil (calls_at (space_after name (before ++ vs)) v))
+
+-- some events were answered, and then one more
+pub event_done : (name : List ℕ) (before events : List Event) (event : Event) (space : Space) (a b c : Seen) → space ≡ space_after name (before ++ events)
+    → Does a b (answers_after name before events) (rows_after name before events) → Does b c (event_lines space event) (event_rows space event)
+    → Does a c (answers_after name before (events ++ event ∷ [])) (rows_after name before (events ++ event ∷ []))
+event_done name before events event space a b c is p q =
+    let rows = rows-push name before events event in
+    let same = ap (λ s. event_rows s event) is in
+    does_as a c (answers_after name before events ++ event_lines space event) _ (rows_after name before events + event_rows space event) _
+    (ap (λ s. answers_after name before events ++ event_lines s event) is ∙ sym (answers-push name before events event)) (omega (arith, rows, same))
+    (does_both a b c (answers_after name before events) (event_lines space event) (rows_after name before events) (event_rows space event) p q)
+
+-- what was done of some events is a part of what is done of more
+pub events_front : (name : List ℕ) (before events rest all : List Event) (a b : Seen) → DoesPart a b (answers_after name before events) (rows_after name before events) → all ≡ events ++ rest
+    → DoesPart a b (answers_after name before all) (rows_after name before all)
+events_front name before events rest all a b p is =
+    let rows = rows_after-append name before events rest in
+    let same = ap (rows_after name before) is in
+    part_more a b (answers_after name before events) (answers_after name (before ++ events) rest) (answers_after name before all) (rows_after name before events) (rows_after name before all) p
+    (sym (answers_after-append name before events rest) ∙ ap (answers_after name before) (sym is)) (omega (arith, rows, same))
+
+-- some events were answered, and a part of one more, among all
+pub event_part : (name : List ℕ) (before events rest all : List Event) (event : Event) (space : Space) (a b c : Seen) → space ≡ space_after name (before ++ events)
+    → Does a b (answers_after name before events) (rows_after name before events) → DoesPart b c (event_lines space event) (event_rows space event) → all ≡ (events ++ event ∷ []) ++ rest
+    → DoesPart a c (answers_after name before all) (rows_after name before all)
+event_part name before events rest all event space a b c is p q whole =
+    let rows = rows-push name before events event in
+    let same = ap (λ s. event_rows s event) is in
+    events_front name before (events ++ event ∷ []) rest all a c
+    (part_more a c (answers_after name before events ++ event_lines space event) [] (answers_after name before (events ++ event ∷ []))
+    (rows_after name before events + event_rows space event) (rows_after name before (events ++ event ∷ []))
+    (then_part a b c (answers_after name before events) (event_lines space event) (rows_after name before events) (event_rows space event) p q)
+    (append-nil (answers_after name before events ++ event_lines space event) ∙ ap (λ s. answers_after name before events ++ event_lines s event) is ∙ sym (answers-push name before events event))
+    (omega (arith, rows, same))) whole

@@ -15,18 +15,24 @@ use Rattle.ssap_decode.specs.Standing.{IsShort}
 use Rattle.ssap_decode.specs.Standing as decoding
 use Rattle.ssap_decode.specs.declared.framed.Framed.{Framed}
 use Rattle.ssap_decode.specs.declared.framed.Stop as stop
+use Rattle.ssap_shape.specs.Shape.{IsShape}
 use Rattle.ssap_shape.specs.declared.request.Arrived.{Arrived}
 use Rattle.ssap_shape.specs.declared.request.Arrived.TheVariants.{NotRequest, Wrong, Request}
 use Rattle.session_core.specs.Space.{Space}
 use Rattle.session_core.specs.Runs.{run_from}
 use Rattle.sib_script.proofs.ScriptLaws.{fronts_same}
-use Rattle.sib_app.specs.Output.{Event, Arrives, Stops, StopsBehind, GoesOn, AreArrived, space_after, is_open_after, calls_at, answers_after, event_lines, reason_of}
-use Rattle.sib_app.specs.Session.{Follows, IsArrival, AreArrivals, Hearing, HearsSome, TakesFramed, IsDrained, why_of, reason_in, reason_from}
+use Rattle.sib_app.specs.declared.ending.Fault.{Fault}
+use Rattle.sib_app.specs.Doing.{Seen, Does, DoesPart, IsCause}
+use Rattle.sib_app.specs.Output.{Event, Arrives, Stops, StopsBehind, GoesOn, AreArrived, AreHeard, space_after, is_open_after, calls_at, answers_after, rows_after, event_lines, event_rows, reason_of}
+use Rattle.sib_app.specs.Session.{Follows, IsArrival, AreArrivals, Hearing, HearsPart, HearsSome, TakesFramed, Refuses, IsDrained, why_of, reason_in, reason_from}
 use Rattle.sib_app.specs.declared.why.Why.{Why}
 use Rattle.sib_app.specs.declared.why.Why.TheVariants.{Syntax, Long}
 use Rattle.sib_app.proofs.LinkLemmas.{none_some, some_same}
 use Rattle.sib_app.proofs.CallLemmas.{end_closes}
-use Rattle.sib_app.proofs.EventLemmas.{space-push, answers-push}
+use Rattle.sib_app.proofs.DoingLemmas.{then_nothing, cause_after}
+use Rattle.sib_app.proofs.EventLemmas.{space-push, event_done, event_part, events_front}
+use Rattle.sib_app.proofs.ReadOnce.{heard_once}
+use Rattle.sib_app.proofs.HeardPrefix.{heard_begins}
 
 -- one item more of which something holds
 all_push : {A : Type 0} (P : A → Type 0) (xs : List A) (x : A) → AllByRecursion P xs → P x → AllByRecursion P (xs ++ x ∷ [])
@@ -213,15 +219,15 @@ reasons_same link start (Wrong heads status) = refl
 reasons_same link start (Request request) = refl
 
 -- what a link heard, where the count is another's
-pub hearing_of : (name : List ℕ) (before : List Event) (link came n : ℕ) (heard : List ℕ) (events : List Event) (space : Space) (d : Decoding) (lines : List ℕ) → n ≡ came + length events
+pub hearing_of : (name : List ℕ) (before : List Event) (link came n : ℕ) (heard : List ℕ) (events : List Event) (space : Space) (d : Decoding) → n ≡ came + length events
     → (g : Follows d heard n) → AreArrivals name before link (drop came g.messages) events → space ≡ space_after name (before ++ events) → is_open (state_of space.links link) ≡ true
-    → lines ≡ answers_after name before events → Hearing name before link came heard events space d lines
-hearing_of name before link came n heard events space d lines e g a does on written =
-    subst (λ n. (g : Follows d heard n) → AreArrivals name before link (drop came g.messages) events → Hearing name before link came heard events space d lines) (sym e)
-    (λ g a. record { follows = g; are = a; does = does; runs = on; written = written }) g a
+    → Hearing name before link came heard events space d
+hearing_of name before link came n heard events space d e g a does on =
+    subst (λ n. (g : Follows d heard n) → AreArrivals name before link (drop came g.messages) events → Hearing name before link came heard events space d) (sym e)
+    (λ g a. record { follows = g; are = a; does = does; runs = on }) g a
 
-module _ (name : List ℕ) (before : List Event) (link came : ℕ) (heard : List ℕ) (events : List Event) (space : Space) (d mid new : Decoding) (lines bytes : List ℕ)
-    (h : Hearing name before link came heard events space d lines) where
+module _ (name : List ℕ) (before : List Event) (link came : ℕ) (heard : List ℕ) (events : List Event) (space : Space) (d mid new : Decoding) (bytes : List ℕ)
+    (h : Hearing name before link came heard events space d) where
   -- the messages that came before are among those that were given
   came_within : came ≤ length h.follows.messages
   came_within = omega (arith, h.follows.counted)
@@ -232,18 +238,30 @@ module _ (name : List ℕ) (before : List Event) (link came : ℕ) (heard : List
       does ∙ ap (λ s. run_from s (calls_at s event)) h.does ∙ sym (space-push name (before ++ events) event)
       ∙ ap (space_after name) (append_assoc before events (event ∷ []))
 
-  written : (event : Event) (more : List ℕ) → more ≡ lines ++ event_lines space event → more ≡ answers_after name before (events ++ event ∷ [])
-  written event more is =
-      is ∙ ap (λ l. l ++ event_lines space event) h.written ∙ ap (λ s. answers_after name before events ++ event_lines s event) h.does
-      ∙ sym (answers-push name before events event)
+  -- a fault came at an event that is among all events of these bytes
+  fault_at : (a b c : Seen) (fault : Fault) (event : Event) → Does a b (answers_after name before events) (rows_after name before events)
+      → DoesPart b c (event_lines space event) (event_rows space event) → IsCause b c fault
+      → ((all : List Event) → AreHeard name before link came (heard ++ bytes) all → (rest : List Event) × (all ≡ (events ++ event ∷ []) ++ rest))
+      → HearsPart name before link came (heard ++ bytes) a c × IsCause a c fault
+  fault_at a b c fault event p part cause among = (
+    λ all t. let (rest, is) = among all t in event_part name before events rest all event space a b c h.does p part is,
+    cause_after a b c fault p.faults cause,
+  )
 
-  -- the decoder stopped
-  pub hearing_refused : (at : stop.Stop) (why : Why) (after_ : Decoding) (next : Space) (more : List ℕ) → IsDrained space → decoding.FeedStands d bytes (Err at) mid → why_of at ≡ Some why
-      → next ≡ run_from space (calls_at space (Stops link why)) → more ≡ lines ++ event_lines space (Stops link why)
-      → HearsSome name before link came heard events bytes None next after_ more
-  hearing_refused at why after_ next more drained fed is does line = (
-    Stops link why,
-    record {
+  -- a fault came before the next event
+  fault_before : (a b c : Seen) (fault : Fault) → Does a b (answers_after name before events) (rows_after name before events) → Does b c [] 0 → IsCause b c fault
+      → HearsPart name before link came (heard ++ bytes) a c × IsCause a c fault
+  fault_before a b c fault p q cause = (
+    λ all t.
+        let (rest, is) = heard_begins name before link came heard bytes events all d h.follows h.are t in
+        events_front name before events rest all a c (then_nothing a b c (answers_after name before events) (rows_after name before events) p q) is,
+    cause_after a b c fault p.faults cause,
+  )
+
+  module _ (at : stop.Stop) (why : Why) (fed : decoding.FeedStands d bytes (Err at) mid) (is : why_of at ≡ Some why) where
+    -- what is heard of the bytes at which the decoder stopped
+    refused_heard : AreHeard name before link came (heard ++ bytes) (events ++ Stops link why ∷ [])
+    refused_heard = record {
       front = heard;
       rest = bytes;
       split = refl;
@@ -252,31 +270,51 @@ module _ (name : List ℕ) (before : List Event) (link came : ℕ) (heard : List
       taken = subst (λ l. AreArrived name before link heard bytes l (events ++ Stops link why ∷ [])) (append-nil (drop came h.follows.messages))
           (arrivals_then name before link heard bytes (drop came h.follows.messages) [] events (Stops link why ∷ []) h.are
           (Some why, stop_stands d heard bytes at why h.follows.sound (fed heard (came + length events) h.follows.stands).1 is, refl));
-    },
+    }
+
+  -- the decoder stopped
+  pub hearing_refused : (at : stop.Stop) (after_ : Decoding) (next : Space) (a b c : Seen) → IsDrained space → decoding.FeedStands d bytes (Err at) mid
+      → Does a b (answers_after name before events) (rows_after name before events) → Refuses link space at next b c (Ok tt)
+      → HearsSome name before link came heard events bytes a c next after_ None
+  hearing_refused at after_ next a b c drained fed p (why, is, does, more) = (
+    Stops link why,
+    refused_heard at why fed is,
     pushed (Stops link why) next does,
     ap (λ (s : Space). is_open (state_of s.links link)) does ∙ end_closes space link drained h.runs,
-    written (Stops link why) more line,
+    event_done name before events (Stops link why) space a b c h.does p more,
   )
+
+  -- a fault came where the link was to be stopped
+  pub refused_fault : (at : stop.Stop) (next : Space) (a b c : Seen) (fault : Fault) → decoding.FeedStands d bytes (Err at) mid
+      → Does a b (answers_after name before events) (rows_after name before events) → Refuses link space at next b c (Err fault)
+      → HearsPart name before link came (heard ++ bytes) a c × IsCause a c fault
+  refused_fault at next a b c fault fed p (inl (nothing, cause)) = fault_before a b c fault p nothing cause
+  refused_fault at next a b c fault fed p (inr (why, is, part, cause)) =
+      fault_at a b c fault (Stops link why) p part cause
+      (λ all t. ([], heard_once name before link came (heard ++ bytes) all (events ++ Stops link why ∷ []) t (refused_heard at why fed is) ∙ sym (append-nil (events ++ Stops link why ∷ []))))
 
   module _ (count : ℕ) (feeds : Feeds d bytes count mid) (fed : decoding.FeedStands d bytes (Ok count) mid) (result : Option Framed) (waits : result ≡ mid.waiting)
       (is : new ≡ record mid { waiting = None }) (next : decoding.NextStands mid result new) where
     -- a call that ended no message
-    pub hearing_on : result ≡ None → (more : List Event) × Hearing name before link came (heard ++ take count bytes) (events ++ more) space new lines
-    hearing_on none =
+    pub hearing_on : (a b : Seen) → result ≡ None → Does a b (answers_after name before events) (rows_after name before events)
+        → HearsSome name before link came heard events bytes a b space new (Some count)
+    hearing_on a b none p =
         let told : decoding.NextStands mid None new = subst (λ o. decoding.NextStands mid o new) none next in
         let stands = (told (heard ++ take count bytes) (came + length events) (fed_on d mid bytes count fed heard (came + length events) h.follows.stands)).0 in
-        let (g, same) = follows_on d mid new heard bytes (came + length events) count h.follows feeds fed (sym waits ∙ none) is stands in (
+        let (g, same) = follows_on d mid new heard bytes (came + length events) count h.follows feeds fed (sym waits ∙ none) is stands in
+        let still : events ≡ events ++ [] = sym (append-nil events) in (
           [],
-          subst (λ r. Hearing name before link came (heard ++ take count bytes) r space new lines) (sym (append-nil events)) (record {
+          subst (λ r. Hearing name before link came (heard ++ take count bytes) r space new) still (record {
             follows = g;
             are = subst (λ l. AreArrivals name before link (drop came l) events) (sym same) h.are;
             does = h.does;
             runs = h.runs;
-            written = h.written;
           }),
+          subst (λ r. Does a b (answers_after name before r) (rows_after name before r)) still p,
         )
 
-    module _ (framed : Framed) (some : result ≡ Some framed) (done : Space) (more : List ℕ) (on : Bool) (t : TakesFramed link space framed lines on done more) where
+    module _ (framed : Framed) (some : result ≡ Some framed) (arrived : Arrived) (shape : IsShape framed.envelope arrived) (done : Space)
+        (does : done ≡ run_from space (calls_at space (Arrives link framed.start arrived))) where
       -- a call that ended a message
       followed : (g : Follows new (heard ++ take count bytes) (came + length events + 1)) × (g.messages ≡ h.follows.messages ++ decoding.placed_of framed ∷ [])
       followed =
@@ -288,52 +326,83 @@ module _ (name : List ℕ) (before : List Event) (link came : ℕ) (heard : List
       one_more : drop came followed.0.messages ≡ drop came h.follows.messages ++ decoding.placed_of framed ∷ []
       one_more = ap (drop came) followed.1 ∙ drop-append-le came h.follows.messages (decoding.placed_of framed ∷ []) came_within
 
-      -- the event
-      event : Event
-      event = Arrives link framed.start t.arrived
-
       -- the link is open behind it, or not
-      open_then : is_open_after name ((before ++ events) ++ Arrives link framed.start t.arrived ∷ []) link ≡ on
+      open_then : is_open_after name ((before ++ events) ++ Arrives link framed.start arrived ∷ []) link ≡ is_open (state_of done.links link)
       open_then =
-          ap (λ b. is_open_after name b link) (append_assoc before events (Arrives link framed.start t.arrived ∷ []))
-          ∙ ap (λ (s : Space). is_open (state_of s.links link)) (sym (pushed (Arrives link framed.start t.arrived) done t.does)) ∙ sym t.on_is
+          ap (λ b. is_open_after name b link) (append_assoc before events (Arrives link framed.start arrived ∷ []))
+          ∙ ap (λ (s : Space). is_open (state_of s.links link)) (sym (pushed (Arrives link framed.start arrived) done does))
 
       -- the link goes on
-      pub hearing_arrives : on ≡ true → (others : List Event) × Hearing name before link came (heard ++ take count bytes) (events ++ others) done new more
-      hearing_arrives yes_ = (
-        Arrives link framed.start t.arrived ∷ [],
-        hearing_of name before link came (came + length events + 1) (heard ++ take count bytes) (events ++ Arrives link framed.start t.arrived ∷ []) done new more
-            (omega (arith, length-append events (Arrives link framed.start t.arrived ∷ []))) followed.0
-            (subst (λ l. AreArrivals name before link l (events ++ Arrives link framed.start t.arrived ∷ [])) (sym one_more)
-            (arrivals_push name before link (drop came h.follows.messages) events (decoding.placed_of framed) (Arrives link framed.start t.arrived) h.are
-            (t.arrived, t.shape, refl, open_then ∙ yes_)))
-            (pushed (Arrives link framed.start t.arrived) done t.does) (sym t.on_is ∙ yes_) (written (Arrives link framed.start t.arrived) more t.writes),
+      arrives_on : is_open (state_of done.links link) ≡ true → Hearing name before link came (heard ++ take count bytes) (events ++ Arrives link framed.start arrived ∷ []) done new
+      arrives_on on =
+          hearing_of name before link came (came + length events + 1) (heard ++ take count bytes) (events ++ Arrives link framed.start arrived ∷ []) done new
+          (omega (arith, length-append events (Arrives link framed.start arrived ∷ []))) followed.0
+          (subst (λ l. AreArrivals name before link l (events ++ Arrives link framed.start arrived ∷ [])) (sym one_more)
+          (arrivals_push name before link (drop came h.follows.messages) events (decoding.placed_of framed) (Arrives link framed.start arrived) h.are
+          (arrived, shape, refl, open_then ∙ on)))
+          (pushed (Arrives link framed.start arrived) done does) on
+
+      -- or it is open no more
+      arrives_off : is_open (state_of done.links link) ≡ false → AreHeard name before link came (heard ++ bytes) (events ++ Arrives link framed.start arrived ∷ [])
+      arrives_off off = record {
+        front = heard ++ take count bytes;
+        rest = drop count bytes;
+        split = ap (λ l. heard ++ l) (sym (take-append-drop count bytes)) ∙ sym (append_assoc heard (take count bytes) (drop count bytes));
+        messages = followed.0.messages;
+        through = followed.0.through;
+        taken = subst (λ l. AreArrived name before link (heard ++ take count bytes) (drop count bytes) l (events ++ Arrives link framed.start arrived ∷ [])) (sym one_more)
+            (arrivals_then name before link (heard ++ take count bytes) (drop count bytes) (drop came h.follows.messages) (decoding.placed_of framed ∷ []) events
+            (Arrives link framed.start arrived ∷ []) h.are (
+              arrived,
+              shape,
+              subst (λ b. GoesOn b (Arrives link framed.start arrived)
+                  (AreArrived name ((before ++ events) ++ Arrives link framed.start arrived ∷ []) link (heard ++ take count bytes) (drop count bytes) []) (Arrives link framed.start arrived ∷ []))
+                  (sym (open_then ∙ off)) refl,
+            ));
+      }
+
+      -- all events of the bytes begin with those before it, and it
+      arrives_among : (all : List Event) → AreHeard name before link came (heard ++ bytes) all → (rest : List Event) × (all ≡ (events ++ Arrives link framed.start arrived ∷ []) ++ rest)
+      arrives_among all t = go (is_open (state_of done.links link)) refl
+        where
+          go : (b : Bool) → is_open (state_of done.links link) ≡ b → (rest : List Event) × (all ≡ (events ++ Arrives link framed.start arrived ∷ []) ++ rest)
+          go true on =
+              let whole : heard ++ bytes ≡ (heard ++ take count bytes) ++ drop count bytes =
+              ap (λ l. heard ++ l) (sym (take-append-drop count bytes)) ∙ sym (append_assoc heard (take count bytes) (drop count bytes))
+              in
+              let g = arrives_on on in
+              heard_begins name before link came (heard ++ take count bytes) (drop count bytes) (events ++ Arrives link framed.start arrived ∷ []) all new g.follows g.are
+              (subst (λ l. AreHeard name before link came l all) whole t)
+          go false off = (
+            [],
+            heard_once name before link came (heard ++ bytes) all (events ++ Arrives link framed.start arrived ∷ []) t (arrives_off off) ∙ sym (append-nil (events ++ Arrives link framed.start arrived ∷ [])),
+          )
+
+    module _ (framed : Framed) (some : result ≡ Some framed) (done : Space) (a b c : Seen) (p : Does a b (answers_after name before events) (rows_after name before events)) where
+      -- a message was ended and answered, and its link goes on
+      pub hearing_arrives : TakesFramed link space framed done b c (Ok true) → HearsSome name before link came heard events bytes a c done new (Some count)
+      hearing_arrives (arrived, shape, does, on, more) = (
+        Arrives link framed.start arrived ∷ [],
+        arrives_on framed some arrived shape done does (sym on),
+        event_done name before events (Arrives link framed.start arrived) space a b c h.does p more,
       )
 
       -- or it is open no more
-      pub hearing_stops : (after_ : Decoding) → on ≡ false → HearsSome name before link came heard events bytes None done after_ more
-      hearing_stops after_ no_ = (
-        Arrives link framed.start t.arrived,
-        record {
-          front = heard ++ take count bytes;
-          rest = drop count bytes;
-          split = ap (λ l. heard ++ l) (sym (take-append-drop count bytes)) ∙ sym (append_assoc heard (take count bytes) (drop count bytes));
-          messages = followed.0.messages;
-          through = followed.0.through;
-          taken = subst (λ l. AreArrived name before link (heard ++ take count bytes) (drop count bytes) l (events ++ Arrives link framed.start t.arrived ∷ [])) (sym one_more)
-              (arrivals_then name before link (heard ++ take count bytes) (drop count bytes) (drop came h.follows.messages) (decoding.placed_of framed ∷ []) events
-              (Arrives link framed.start t.arrived ∷ []) h.are (
-                t.arrived,
-                t.shape,
-                subst (λ b. GoesOn b (Arrives link framed.start t.arrived)
-                    (AreArrived name ((before ++ events) ++ Arrives link framed.start t.arrived ∷ []) link (heard ++ take count bytes) (drop count bytes) []) (Arrives link framed.start t.arrived ∷ []))
-                    (sym (open_then ∙ no_)) refl,
-              ));
-        },
-        pushed (Arrives link framed.start t.arrived) done t.does,
-        sym t.on_is ∙ no_,
-        written (Arrives link framed.start t.arrived) more t.writes,
+      pub hearing_stops : (after_ : Decoding) → TakesFramed link space framed done b c (Ok false) → HearsSome name before link came heard events bytes a c done after_ None
+      hearing_stops after_ (arrived, shape, does, on, more) = (
+        Arrives link framed.start arrived,
+        arrives_off framed some arrived shape done does (sym on),
+        pushed (Arrives link framed.start arrived) done does,
+        sym on,
+        event_done name before events (Arrives link framed.start arrived) space a b c h.does p more,
       )
+
+      -- or a fault came
+      pub hearing_fault : (fault : Fault) → TakesFramed link space framed done b c (Err fault) → HearsPart name before link came (heard ++ bytes) a c × IsCause a c fault
+      hearing_fault fault (inl (nothing, cause)) = fault_before a b c fault p nothing cause
+      hearing_fault fault (inr (arrived, shape, part, cause)) =
+          fault_at a b c fault (Arrives link framed.start arrived) p part cause
+          (arrives_among framed some arrived shape (run_from space (calls_at space (Arrives link framed.start arrived))) refl)
 
 -- a decoder that has taken nothing
 pub follows_fresh : (d : Decoding) → d ≡ fresh → decoding.Stands d [] 0 → Follows d [] 0

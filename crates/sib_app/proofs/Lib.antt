@@ -1,13 +1,15 @@
-pub mod Results
+pub mod DoingLemmas
 pub mod LinkLemmas
 pub mod TakeLemmas
 pub mod RingLemmas
 pub mod CallLemmas
 pub mod EventLemmas
+pub mod ReadOnce
+pub mod HeardPrefix
 pub mod HearingLemmas
 pub mod DeliveryLemmas
 pub mod SessionLemmas
-pub mod ReadOnce
+pub mod OrderLemmas
 pub mod OutputLemmas
 pub mod Letting
 pub mod OutputsExist

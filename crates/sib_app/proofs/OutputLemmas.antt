@@ -55,6 +55,28 @@ taken_front name before (e ∷ es) tail vs ws (first, others, is, taken, s) (sta
 pub told_front : (name : List ℕ) (es tail : List Entry) (vs ws : List Event) → AreTaken name es vs → AreTaken name (es ++ tail) ws → (rest : List Event) × (ws ≡ vs ++ rest)
 told_front name es tail vs ws s t = taken_front name [] es tail vs ws s t
 
+-- what more entries are taken as has behind the first what the next one is taken as
+taken_entry : (name : List ℕ) (before : List Event) (es tail : List Entry) (e : Entry) (vs ws : List Event) → AreTakenAfter name before es vs → AreTakenAfter name before (es ++ e ∷ tail) ws
+    → (first : List Event) × (others : List Event) × (ws ≡ vs ++ (first ++ others)) × IsTaken name (before ++ vs) e first
+taken_entry name before [] tail e vs ws s (start, more, as_, again, t) = (
+  start,
+  more,
+  as_ ∙ sym (ap (λ l. l ++ (start ++ more)) s),
+  subst (λ b. IsTaken name b e start) (sym (ap (λ l. before ++ l) s ∙ append-nil before)) again,
+)
+taken_entry name before (d ∷ es) tail e vs ws (first, others, is, taken, s) (start, more, as_, again, t) =
+    let same : start ≡ first = taken_once name before d start first again taken in
+    let (next, rest, whole, here) = taken_entry name (before ++ first) es tail e others more s (subst (λ x. AreTakenAfter name (before ++ x) (es ++ e ∷ tail) more) same t) in (
+      next,
+      rest,
+      as_ ∙ ap (λ x. x ++ more) same ∙ ap (λ l. first ++ l) whole ∙ sym (append_assoc first others (next ++ rest)) ∙ ap (λ l. l ++ (next ++ rest)) (sym is),
+      subst (λ b. IsTaken name b e next) (append_assoc before first others ∙ ap (λ l. before ++ l) (sym is)) here,
+    )
+
+pub told_entry : (name : List ℕ) (es tail : List Entry) (e : Entry) (vs ws : List Event) → AreTaken name es vs → AreTaken name (es ++ e ∷ tail) ws
+    → (first : List Event) × (others : List Event) × (ws ≡ vs ++ (first ++ others)) × IsTaken name vs e first
+told_entry name es tail e vs ws s t = taken_entry name [] es tail e vs ws s t
+
 -- entries are taken as one thing
 same_after : (name : List ℕ) (before : List Event) (es : List Entry) (vs ws : List Event) → AreTakenAfter name before es vs → AreTakenAfter name before es ws → ws ≡ vs
 same_after name before [] vs ws s t = t ∙ sym s

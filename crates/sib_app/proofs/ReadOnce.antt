@@ -104,7 +104,7 @@ arrived_once name before link f r g q (message ∷ l) m v w (c, a, x) (d, b, y) 
     (subst (λ e. GoesOn (is_open_after name (before ++ Arrives link message.start e ∷ []) link) (Arrives link message.start e) (Others e) w) (sym (shapes_once message.envelope c d a b)) y)
 
 -- what is left out of two lists that follow each other
-drop-two : {A : Type 0} (n : ℕ) (xs ys : List A) → (zs : List A) × (drop n (xs ++ ys) ≡ drop n xs ++ zs)
+pub drop-two : {A : Type 0} (n : ℕ) (xs ys : List A) → (zs : List A) × (drop n (xs ++ ys) ≡ drop n xs ++ zs)
 drop-two zero [] ys = (ys, refl)
 drop-two zero (x ∷ xs) ys = (ys, refl)
 drop-two (suc n) [] ys = (drop (suc n) ys, refl)

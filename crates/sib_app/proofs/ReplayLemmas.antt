@@ -1,23 +1,23 @@
 -- How a replay goes on from one entry to the next, and what stands where it stops.
-use Rattle.std.proofs.Common.{◌≡◌, ◌∙◌, ap, sym, refl, subst, arith, ℕ, ◌+◌, ◌*◌, ◌^◌, ◌≤◌, ◌==◌, true, false, cond, List, [], ◌∷◌, ◌++◌, length, drop, Option, Result, Ok, Err, IfErr, OnOk, append_assoc, append-nil, length-append, inl, inr}
+use Rattle.std.proofs.Common.{◌≡◌, ◌∙◌, ap, sym, refl, subst, arith, ℕ, ◌+◌, ◌≤◌, ◌==◌, true, false, cond, List, [], ◌∷◌, ◌++◌, length, drop, Option, Result, Ok, Err, append_assoc, append-nil, length-append, inl, inr}
 use Rattle.std.specs.Bool.{MatchBool}
-use Rattle.std.specs.Io.KnownBytes.{Appends}
-use Rattle.std.proofs.KnownBytes.{Appends-trans}
 use Rattle.sib_io.specs.Causes.{AppendsPart}
-use Rattle.sib_io.proofs.KnownLemmas.{part_after, part_of_more}
+use Rattle.sib_io.proofs.KnownLemmas.{part_of_more}
 use Rattle.sib_script.specs.declared.entry.Entry.{Entry}
 use Rattle.sib_script.specs.declared.entry.Entry.TheVariants.{NewLink, Bytes, End}
 use Rattle.sib_script.specs.Script.{entry_spelling, script_spelling, Splits}
 use Rattle.sib_script.specs.Reading.{Reading}
 use Rattle.sib_script.proofs.ScriptLaws.{script_spelling-push, entries_push, splits_front, splits_reading}
-use Rattle.sib_app.specs.Output.{Event, Opens, Hears, Stops, Ends, Closed, is_open_after, heard, arrived_on, IsHeard, IsEnded, IsTaken, AreTakenAfter, AreTaken, answers, answers_after, farewell}
-use Rattle.sib_app.specs.Session.{Answers, Replays, Holds, Fails, GivesFront, Delivers, Fits, weight}
+use Rattle.sib_app.specs.declared.ending.Fault.{Fault}
+use Rattle.sib_app.specs.Doing.{Seen, DoesPart}
+use Rattle.sib_app.specs.Ending.{ReadsWithin}
+use Rattle.sib_app.specs.Output.{Event, Opens, Hears, Stops, Ends, Closed, is_open_after, heard, arrived_on, IsHeard, IsEnded, IsTaken, AreTakenAfter, AreTaken, answers, answers_after, rows, rows_after, farewell}
+use Rattle.sib_app.specs.Session.{Answers, Replays, Holds, Parts, Settles, GivesFront, Delivers, Fits}
 use Rattle.sib_app.specs.declared.why.Why.TheVariants.{Cut}
 use Rattle.sib_app.specs.declared.session.Session.{Session}
-use Rattle.sib_app.specs.declared.ending.Ending.{Ending}
-use Rattle.sib_app.specs.declared.ending.Ending.TheVariants.{Done, BadScript, ReadFault, WriteFault, NoMemory, Spent}
-use Rattle.sib_app.proofs.EventLemmas.{heard-append, arrived_quiet, answers_after-append}
-use Rattle.sib_app.proofs.OutputLemmas.{answers-append, taken-push, told_front}
+use Rattle.sib_app.proofs.DoingLemmas.{does_as, does_both, part_more, then_part, cause_after}
+use Rattle.sib_app.proofs.EventLemmas.{heard-append, arrived_quiet, answers_after-append, rows_after-append}
+use Rattle.sib_app.proofs.OutputLemmas.{answers-append, taken-push, told_front, told_entry}
 
 -- a delivery's spelling is longer than its bytes
 spelled_longer : (link : ℕ) (bytes : List ℕ) → length bytes ≤ length (entry_spelling (Bytes link bytes))
@@ -69,7 +69,7 @@ heard_read name before link (e ∷ es) vs (first, others, is, taken, rest) =
     )
 
 -- an entry that was read whole has bytes that, behind those on its link, can be counted
-pub fits_of_held : (name : List ℕ) (old new : Option (List ℕ)) (read : List ℕ) (entry : Entry) (reader : Reading) (session : Session)
+pub fits_of_held : (name : List ℕ) (old new : Seen) (read : List ℕ) (entry : Entry) (reader : Reading) (session : Session)
     → (h : Holds name old new read entry reader session) → Fits h.events entry
 fits_of_held name old new read NewLink reader session h = tt
 fits_of_held name old new read (Bytes link bytes) reader session h =
@@ -83,20 +83,7 @@ fits_of_held name old new read (Bytes link bytes) reader session h =
     )
 fits_of_held name old new read (End link) reader session h = tt
 
--- an entry makes no more calls than it has bytes
-weight_within : (e : Entry) → weight e ≤ length (entry_spelling e)
-unfolding entry_spelling
-weight_within NewLink = omega arith
-weight_within (Bytes link bytes) = simp length-append (omega arith)
-weight_within (End link) = simp length-append (omega arith)
-
--- the calls of an entry that was read whole can be counted
-pub room_of_held : (name : List ℕ) (old new : Option (List ℕ)) (read : List ℕ) (entry : Entry) (reader : Reading) (session : Session)
-    → Holds name old new read entry reader session → session.core.count + 2 * weight entry ≤ 2 ^ 62
-room_of_held name old new read entry reader session h =
-    omega (arith, h.small, h.counted, ap length h.spelled, length-append (script_spelling h.entries) (entry_spelling entry), weight_within entry)
-
--- a front of the answers to the entries that were read is a front of all that is written
+-- a prefix of the answers to the entries that were read is a prefix of all that is written
 pub front_of_output : (name : List ℕ) (old now : Option (List ℕ)) (read rest : List ℕ) (es : List Entry) (ds : List Event) → Splits read es rest
     → AreTaken name es ds → AppendsPart old now (answers name ds) → GivesFront name old now read
 front_of_output name old now read rest es ds s t part more output (fs, left, gs, place, splits, at, told, is) =
@@ -110,79 +97,78 @@ front_of_output name old now read rest es ds s t part more output (fs, left, gs,
     in
     subst (AppendsPart old now) whole (part_of_more old now (answers name ds) behind part)
 
+-- the rows of some events and of more
+rows-append : (name : List ℕ) (vs ws : List Event) → rows name (vs ++ ws) ≡ rows name vs + rows_after name vs ws
+rows-append name vs ws = rows_after-append name [] vs ws
+
+-- within the rows of the entries that were read is within those of these and more
+pub rows_of_output : (name : List ℕ) (old now : ℕ) (read rest : List ℕ) (es : List Entry) (ds : List Event) → Splits read es rest → AreTaken name es ds → now ≤ old + rows name ds
+    → ReadsWithin name old now read
+rows_of_output name old now read rest es ds s t within more fs left gs splits told =
+    let grown = splits_front read more es fs rest left s splits in
+    let same = told_front name es grown.0 ds gs t (subst (λ l. AreTaken name l gs) grown.1 told) in
+    omega (arith, within, rows-append name ds same.0, ap (rows name) same.1)
+
 -- the entries with the one that is held
-held_splits : (name : List ℕ) (old new : Option (List ℕ)) (read : List ℕ) (entry : Entry) (reader : Reading) (session : Session)
+held_splits : (name : List ℕ) (old new : Seen) (read : List ℕ) (entry : Entry) (reader : Reading) (session : Session)
     → (h : Holds name old new read entry reader session) → Splits read (h.entries ++ entry ∷ []) []
 held_splits name old new read entry reader session h =
     (splits_reading read (h.entries ++ entry ∷ []) [] (entries_push h.entries entry h.allowed h.comes)
     (h.spelled ∙ sym (append-nil (script_spelling (h.entries ++ entry ∷ [])) ∙ script_spelling-push h.entries entry)) (inr refl)).0
 
--- an entry whose answer was given is answered
-replays_entry : (name : List ℕ) (old given now : Option (List ℕ)) (read : List ℕ) (entry : Entry) (written : List ℕ) (reader : Reading) (session new : Session)
-    → (h : Holds name old given read entry reader session) → Answers name h.events entry written new → Appends given now written
-    → new.core.count ≤ session.core.count + 2 * weight entry → Replays name old now read reader new
-replays_entry name old given now read entry written reader session new h a p few = record {
-  entries = h.entries ++ entry ∷ [];
-  events = h.events ++ a.events;
-  allowed = entries_push h.entries entry h.allowed h.comes;
-  spelled = h.spelled ∙ sym (script_spelling-push h.entries entry) ∙ sym (ap (λ l. script_spelling (h.entries ++ entry ∷ []) ++ l) h.unread ∙ append-nil (script_spelling (h.entries ++ entry ∷ [])));
-  part = inr h.unread;
-  waiting = h.waiting;
-  running = h.running;
-  taken = h.taken;
-  told = taken-push name h.entries h.events entry a.events h.told a.taken;
-  stands = a.stands;
-  counted = omega (arith, few, h.counted, weight_within entry, ap length (script_spelling-push h.entries entry), length-append (script_spelling h.entries) (entry_spelling entry));
-  given = subst (Appends old now) (ap (λ l. answers name h.events ++ l) a.answer ∙ sym (answers-append name h.events a.events))
-      (Appends-trans old given now (answers name h.events) written h.given p);
-}
+module _ (name : List ℕ) (old given now : Seen) (read : List ℕ) (entry : Entry) (reader : Reading) (session : Session) (h : Holds name old given read entry reader session) where
+  -- an entry that was answered is one more
+  replays_entry : (new : Session) → Answers name h.events entry given now new → Replays name old now read reader new
+  replays_entry new a = record {
+    entries = h.entries ++ entry ∷ [];
+    events = h.events ++ a.events;
+    allowed = entries_push h.entries entry h.allowed h.comes;
+    spelled = h.spelled ∙ sym (script_spelling-push h.entries entry) ∙ sym (ap (λ l. script_spelling (h.entries ++ entry ∷ []) ++ l) h.unread ∙ append-nil (script_spelling (h.entries ++ entry ∷ [])));
+    part = inr h.unread;
+    waiting = h.waiting;
+    running = h.running;
+    taken = h.taken;
+    told = taken-push name h.entries h.events entry a.events h.told a.taken;
+    stands = a.stands;
+    does = let more = rows-append name h.events a.events in
+        does_as old now (answers name h.events ++ answers_after name h.events a.events) (answers name (h.events ++ a.events))
+        (rows name h.events + rows_after name h.events a.events) (rows name (h.events ++ a.events)) (sym (answers-append name h.events a.events)) (omega (arith, more))
+        (does_both old given now (answers name h.events) (answers_after name h.events a.events) (rows name h.events) (rows_after name h.events a.events) h.does a.answer);
+  }
 
--- where the sink took a front of an answer, it was given a front of all that is written
-front_of_answer : (name : List ℕ) (old given now : Option (List ℕ)) (read : List ℕ) (entry : Entry) (written : List ℕ) (reader : Reading) (session new : Session)
-    → (h : Holds name old given read entry reader session) → Answers name h.events entry written new → AppendsPart given now written
-    → GivesFront name old now read
-front_of_answer name old given now read entry written reader session new h a p =
-    front_of_output name old now read [] (h.entries ++ entry ∷ []) (h.events ++ a.events)
-    (held_splits name old given read entry reader session h)
-    (taken-push name h.entries h.events entry a.events h.told a.taken)
-    (subst (AppendsPart old now) (ap (λ l. answers name h.events ++ l) a.answer ∙ sym (answers-append name h.events a.events))
-    (part_after old given now (answers name h.events) written h.given p))
+  module _ (part : (events : List Event) → IsTaken name h.events entry events → DoesPart given now (answers_after name h.events events) (rows_after name h.events events)) where
+    -- a part of what the entry answers, behind all that was answered before
+    entry_part : (events : List Event) → IsTaken name h.events entry events → DoesPart old now (answers name (h.events ++ events)) (rows name (h.events ++ events))
+    entry_part events t =
+        let more = rows-append name h.events events in
+        part_more old now (answers name h.events ++ answers_after name h.events events) [] (answers name (h.events ++ events))
+        (rows name h.events + rows_after name h.events events) (rows name (h.events ++ events))
+        (then_part old given now (answers name h.events) (answers_after name h.events events) (rows name h.events) (rows_after name h.events events) h.does (part events t))
+        (append-nil (answers name h.events ++ answers_after name h.events events) ∙ sym (answers-append name h.events events)) (omega (arith, more))
 
--- where nothing more was given, it was given a front of all that is written
-front_of_held : (name : List ℕ) (old given : Option (List ℕ)) (read : List ℕ) (entry : Entry) (reader : Reading) (session : Session)
-    → Holds name old given read entry reader session → GivesFront name old given read
-front_of_held name old given read entry reader session h more output (fs, left, gs, place, splits, at, told, is) =
-    let grown = splits_front read more (h.entries ++ entry ∷ []) fs [] left (held_splits name old given read entry reader session h) splits in
-    let tail : List Entry = entry ∷ grown.0 in
-    let grown_on : fs ≡ h.entries ++ tail = grown.1 ∙ append_assoc h.entries (entry ∷ []) grown.0 in
-    let same = told_front name h.entries tail h.events gs h.told (subst (λ l. AreTaken name l gs) grown_on told) in
-    let behind : List ℕ = answers_after name h.events same.0 ++ farewell name gs place left in
-    let whole : answers name h.events ++ behind ≡ output =
-    sym (append_assoc (answers name h.events) (answers_after name h.events same.0) (farewell name gs place left))
-    ∙ ap (λ l. l ++ farewell name gs place left) (sym (ap (answers name) same.1 ∙ answers_after-append name [] h.events same.0))
-    ∙ sym is
-    in
-    (answers name h.events, behind, whole, h.given)
+    -- what the entry is taken as, among all events
+    entry_among : (more : List ℕ) (fs : List Entry) (left : List ℕ) (gs : List Event) → Splits (read ++ more) fs left → AreTaken name fs gs → (events : List Event) × IsTaken name h.events entry events
+    entry_among more fs left gs splits told =
+        let grown = splits_front read more (h.entries ++ entry ∷ []) fs [] left (held_splits name old given read entry reader session h) splits in
+        let all : fs ≡ h.entries ++ entry ∷ grown.0 = grown.1 ∙ append_assoc h.entries (entry ∷ []) grown.0 in
+        let t = told_entry name h.entries grown.0 entry h.events gs h.told (subst (λ l. AreTaken name l gs) all told) in
+        (t.0, t.3)
 
--- an entry that was answered goes on
-pub entry_goes_on : (name : List ℕ) (old given now : Option (List ℕ)) (faults risen : ℕ) (read : List ℕ) (entry : Entry) (reader : Reading) (session new : Session)
-    (result : Result (Unit {0}) Ending) → (h : Holds name old given read entry reader session)
-    → Delivers name h.events entry given now faults risen new result → OnOk result (new.core.count ≤ session.core.count + 2 * weight entry)
-    → OnOk result (Replays name old now read reader new)
-entry_goes_on name old given now faults risen read entry reader session new (Ok done) h (written, a, p) few =
-    replays_entry name old given now read entry written reader session new h a p few
-entry_goes_on name old given now faults risen read entry reader session new (Err ending) h p few = tt
+    -- a prefix of all that is written was given, within the rows of all calls
+    parts_of_entry : Parts name old now read
+    parts_of_entry = record {
+      gives = λ more output o.
+          let (fs, left, gs, place, splits, at, told, is) = o in
+          let (events, t) = entry_among more fs left gs splits told in
+          front_of_output name old.given now.given read [] (h.entries ++ entry ∷ []) (h.events ++ events) (held_splits name old given read entry reader session h)
+          (taken-push name h.entries h.events entry events h.told t) (entry_part events t).given more output o;
+      counts = λ more fs left gs splits told.
+          let (events, t) = entry_among more fs left gs splits told in
+          rows_of_output name old.steps now.steps read [] (h.entries ++ entry ∷ []) (h.events ++ events) (held_splits name old given read entry reader session h)
+          (taken-push name h.entries h.events entry events h.told t) (entry_part events t).steps more fs left gs splits told;
+    }
 
--- an entry that could not be answered stops the replay
-pub entry_stops : (name : List ℕ) (old given now : Option (List ℕ)) (faults risen : ℕ) (read : List ℕ) (entry : Entry) (reader : Reading) (session new : Session)
-    (result : Result (Unit {0}) Ending) → (h : Holds name old given read entry reader session)
-    → Delivers name h.events entry given now faults risen new result → IfErr result (Fails name old now faults risen read)
-entry_stops name old given now faults risen read entry reader session new (Ok done) h p = tt
-entry_stops name old given now faults risen read entry reader session new (Err WriteFault) h (rose, written, a, p) =
-    (rose, front_of_answer name old given now read entry written reader session new h a p)
-entry_stops name old given now faults risen read entry reader session new (Err NoMemory) h p =
-    subst (λ o. GivesFront name old o read) (sym p) (front_of_held name old given read entry reader session h)
-entry_stops name old given now faults risen read entry reader session new (Err Done) h p = absurd p
-entry_stops name old given now faults risen read entry reader session new (Err BadScript) h p = absurd p
-entry_stops name old given now faults risen read entry reader session new (Err ReadFault) h p = absurd p
-entry_stops name old given now faults risen read entry reader session new (Err Spent) h p = absurd p
+  -- an entry was answered, or a fault stopped the answer
+  pub entry_settles : (new : Session) (result : Result (Unit {0}) Fault) → Delivers name h.events entry given now new result → Settles name old now read reader new result
+  entry_settles new (Ok done) a = replays_entry new a
+  entry_settles new (Err fault) (part, cause) = (parts_of_entry part, cause_after old given now fault h.does.faults cause)

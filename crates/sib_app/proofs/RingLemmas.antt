@@ -1,16 +1,14 @@
 -- One link of a ring after another.
-use Rattle.std.proofs.Common.{◌≡◌, ◌∙◌, ap, sym, arith, ℕ, zero, suc, ◌+◌, ◌<◌, List, [], ◌∷◌, ◌++◌, length, drop, Option, Some, None, append_assoc, length-append}
+use Rattle.std.proofs.Common.{◌≡◌, ◌∙◌, ap, sym, arith, ℕ, zero, suc, ◌+◌, ◌<◌, List, [], ◌∷◌, ◌++◌, length, drop, Option, Some, None}
 use Rattle.std.specs.List.{slice_get, flat_map}
-use Rattle.std.proofs.lemmas.List.{length-replicate}
-use Rattle.link_table.specs.Links.{pending_of}
 use Rattle.session_core.specs.Space.{Space}
 use Rattle.session_core.specs.Runs.{run_from}
-use Rattle.session_core.specs.declared.call.Call.TheVariants.{Take}
+use Rattle.session_core.specs.Reads.{costs}
 use Rattle.sib_app.specs.Output.{takes, link_lines}
 use Rattle.sib_app.specs.Session.{AreRising}
 use Rattle.sib_app.specs.declared.why.Why.{Why}
 use Rattle.sib_app.proofs.LinkLemmas.{none_some, some_same, rising_from}
-use Rattle.sib_app.proofs.TakeLemmas.{run_from-append, all_of, takes_still, lines_still}
+use Rattle.sib_app.proofs.TakeLemmas.{run_from-append, costs-append, all_of, takes_still, lines_still}
 
 -- an item, and those behind it
 pub drop_get : {A : Type 0} (xs : List A) (i : ℕ) (x : A) → slice_get xs i ≡ Some x → drop i xs ≡ x ∷ drop (i + 1) xs
@@ -40,18 +38,14 @@ module _ (space next : Space) (link : ℕ) (ring : List ℕ) (rises : AreRising 
   pub ring_runs : run_from next (takes next ring) ≡ run_from space (takes space (link ∷ ring))
   ring_runs = ap (λ s. run_from s (takes next ring)) is ∙ ap (run_from (run_from space (all_of space link))) (sym others_wait) ∙ sym (run_from-append space (all_of space link) (takes space ring))
 
-  -- so many calls take it
-  pub ring_counts : length (takes space (link ∷ ring)) ≡ length (pending_of space.links link) + length (takes next ring)
-  ring_counts =
-      let one = length-replicate (length (pending_of space.links link)) (Take link) in
-      let both = length-append (all_of space link) (takes space ring) in
-      let rest = ap length others_wait in
-      omega (arith, one, both, rest)
+  -- so many rows are read
+  pub ring_costs : costs space (all_of space link) + costs next (takes next ring) ≡ costs space (takes space (link ∷ ring))
+  ring_costs =
+      ap (λ s. costs space (all_of space link) + costs s (takes next ring)) is ∙ ap (λ l. costs space (all_of space link) + costs (run_from space (all_of space link)) l) (sym others_wait)
+      ∙ sym (costs-append space (all_of space link) (takes space ring))
 
   -- and it is written so
-  pub ring_writes : (reason : ℕ → Option Why) (lines : List ℕ) → (lines ++ link_lines space reason link) ++ flat_map (link_lines next reason) ring
-      ≡ lines ++ flat_map (link_lines space reason) (link ∷ ring)
-  ring_writes reason lines =
-      append_assoc lines (link_lines space reason link) (flat_map (link_lines next reason) ring)
-      ∙ ap (λ s. lines ++ (link_lines space reason link ++ flat_map (link_lines s reason) ring)) is
-      ∙ ap (λ l. lines ++ (link_lines space reason link ++ l)) (lines_still space link reason ring rises.1)
+  pub ring_writes : (reason : ℕ → Option Why) → link_lines space reason link ++ flat_map (link_lines next reason) ring ≡ flat_map (link_lines space reason) (link ∷ ring)
+  ring_writes reason =
+      ap (λ s. link_lines space reason link ++ flat_map (link_lines s reason) ring) is
+      ∙ ap (λ l. link_lines space reason link ++ l) (lines_still space link reason ring rises.1)

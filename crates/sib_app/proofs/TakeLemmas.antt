@@ -1,5 +1,5 @@
 -- What it does to take all that waits on a link, and on the links of a ring.
-use Rattle.std.proofs.Common.{◌≡◌, ◌≢◌, ◌∙◌, ap, sym, refl, arith, ℕ, ◌+◌, ◌<◌, ◌≤◌, List, [], ◌∷◌, ◌++◌, length, drop, replicate, Option, Some, None}
+use Rattle.std.proofs.Common.{◌≡◌, ◌≢◌, ◌∙◌, ap, sym, refl, arith, ℕ, ◌+◌, ◌<◌, ◌≤◌, List, [], ◌∷◌, ◌++◌, length, take, drop, replicate, append-nil, Option, Some, None}
 use Rattle.std.specs.List.{flat_map}
 use Rattle.link_table.specs.Links.{Link, taken, link_with, link_at, changed, state_or_never, pending_of, pending_or_none}
 use Rattle.link_table.specs.declared.state.LinkState.{LinkState}
@@ -9,6 +9,8 @@ use Rattle.session_core.specs.Steps.{step, take_step, taken_from, with_links}
 use Rattle.session_core.specs.Runs.{run_from}
 use Rattle.session_core.specs.declared.call.Call.{Call}
 use Rattle.session_core.specs.declared.call.Call.TheVariants.{Take}
+use Rattle.session_core.specs.declared.call.Reply.TheVariants.{Message}
+use Rattle.session_core.specs.Reads.{cost, costs}
 use Rattle.sib_app.specs.Output.{takes, message_lines, link_lines, stop_lines, stop_at}
 use Rattle.sib_app.specs.Session.{AreRising}
 use Rattle.sib_app.specs.declared.why.Why.{Why}
@@ -18,6 +20,11 @@ use Rattle.sib_app.proofs.LinkLemmas.{at_changed, at_unchanged, length_changed}
 pub run_from-append : (space : Space) (calls others : List Call) → run_from space (calls ++ others) ≡ run_from (run_from space calls) others
 run_from-append space [] others = refl
 run_from-append space (call ∷ calls) others = run_from-append (step space call).space calls others
+
+-- the rows of some calls and then of others
+pub costs-append : (space : Space) (calls others : List Call) → costs space (calls ++ others) ≡ costs space calls + costs (run_from space calls) others
+costs-append space [] others = omega arith
+costs-append space (call ∷ calls) others = let rest = costs-append (step space call).space calls others in omega (arith, rest)
 
 -- what is left of a link of which a message was taken
 taken_pending : (l : Link) → (taken l).pending ≡ drop 1 l.pending
@@ -52,6 +59,12 @@ module _ (space : Space) (link : ℕ) (message : List ℕ) (pending : List (List
       let (l, at, waits) = waits_some space.links link 0 message pending h in
       ap (λ o. (take_step space link o).space) at ∙ ap (λ p. (taken_from space link l.state p).space) waits
 
+  -- the message is told
+  pub take_reply : (step space (Take link)).reply ≡ Message message
+  take_reply =
+      let (l, at, waits) = waits_some space.links link 0 message pending h in
+      ap (λ o. (take_step space link o).reply) at ∙ ap (λ p. (taken_from space link l.state p).reply) waits
+
   -- the others wait on
   pub take_pending : pending_of (step space (Take link)).space.links link ≡ pending
   take_pending =
@@ -85,6 +98,39 @@ take_first space link some = go (pending_of space.links link) refl
           left ∙ sym (ap (drop 1) e),
           omega (arith, ap length left, ap length e),
         )
+
+-- the rows of the first call and of the others
+pub take_costs : (space : Space) (link : ℕ) → 0 < length (pending_of space.links link)
+    → cost space (Take link) + costs (step space (Take link)).space (all_of (step space (Take link)).space link) ≡ costs space (all_of space link)
+take_costs space link some = go (pending_of space.links link) refl
+  where
+    next : Space
+    next = (step space (Take link)).space
+
+    go : (p : List (List ℕ)) → pending_of space.links link ≡ p → cost space (Take link) + costs next (all_of next link) ≡ costs space (all_of space link)
+    go [] e = absurd (omega (arith, some, ap length e))
+    go (m ∷ p) e =
+        ap (λ l. cost space (Take link) + costs next (replicate (length l) (Take link))) (take_pending space link m p e)
+        ∙ sym (ap (λ l. costs space (replicate (length l) (Take link))) e)
+
+-- what is written of the first message and of the others
+pub first_lines : (link : ℕ) (p : List (List ℕ)) → flat_map (message_lines link) (take 1 p) ++ flat_map (message_lines link) (drop 1 p) ≡ flat_map (message_lines link) p
+first_lines link [] = refl
+first_lines link (m ∷ p) = ap (λ l. l ++ flat_map (message_lines link) p) (append-nil (message_lines link m))
+
+-- the message that is taken is the first
+pub first_taken : (space : Space) (link : ℕ) (message : List ℕ) → 0 < length (pending_of space.links link) → (step space (Take link)).reply ≡ Message message
+    → flat_map (message_lines link) (take 1 (pending_of space.links link)) ≡ message_lines link message
+first_taken space link message some h = go (pending_of space.links link) refl
+  where
+    same : (x : List ℕ) → Message x ≡ Message message → x ≡ message
+    same x e = cc
+
+    go : (p : List (List ℕ)) → pending_of space.links link ≡ p → flat_map (message_lines link) (take 1 (pending_of space.links link)) ≡ message_lines link message
+    go [] e = absurd (omega (arith, some, ap length e))
+    go (x ∷ p) e =
+        ap (λ q. flat_map (message_lines link) (take 1 q)) e ∙ append-nil (message_lines link x)
+        ∙ ap (message_lines link) (same x (sym (take_reply space link x p e) ∙ h))
 
 -- while all that waits on a link is taken, the other links stay
 pub all_others : (space : Space) (link other : ℕ) → link ≢ other → link_at (run_from space (all_of space link)).links other ≡ link_at space.links other
@@ -136,15 +182,18 @@ module _ (space : Space) (link : ℕ) where
           ap (λ o. replicate (length (pending_or_none o)) (Take other) ++ takes (run_from space (all_of space link)) ring) same
           ∙ ap (λ l. all_of space other ++ l) (go other (omega (arith, h, r.0)) ring r.1)
 
-  pub lines_still : (reason : ℕ → Option Why) (ring : List ℕ) → AreRising (link + 1) ring
-      → flat_map (link_lines (run_from space (all_of space link)) reason) ring ≡ flat_map (link_lines space reason) ring
-  lines_still reason ring r = go link (omega arith) ring r
+  pub all_still : {A : Type 0} (F : ℕ → Option Link → List A) (ring : List ℕ) → AreRising (link + 1) ring
+      → flat_map (λ n. F n (link_at (run_from space (all_of space link)).links n)) ring ≡ flat_map (λ n. F n (link_at space.links n)) ring
+  all_still F ring r = go link (omega arith) ring r
     where
       go : (least : ℕ) → link ≤ least → (ring : List ℕ) → AreRising (least + 1) ring
-          → flat_map (link_lines (run_from space (all_of space link)) reason) ring ≡ flat_map (link_lines space reason) ring
+          → flat_map (λ n. F n (link_at (run_from space (all_of space link)).links n)) ring ≡ flat_map (λ n. F n (link_at space.links n)) ring
       go least h [] r = refl
       go least h (other ∷ ring) r =
           let same = all_others space link other (λ e. omega (arith, h, r.0, e)) in
-          ap (λ o. (flat_map (message_lines other) (pending_or_none o) ++ stop_lines other (stop_at (state_or_never o) (reason other)))
-          ++ flat_map (link_lines (run_from space (all_of space link)) reason) ring) same
-          ∙ ap (λ l. link_lines space reason other ++ l) (go other (omega (arith, h, r.0)) ring r.1)
+          ap (λ o. F other o ++ flat_map (λ n. F n (link_at (run_from space (all_of space link)).links n)) ring) same
+          ∙ ap (λ l. F other (link_at space.links other) ++ l) (go other (omega (arith, h, r.0)) ring r.1)
+
+  pub lines_still : (reason : ℕ → Option Why) (ring : List ℕ) → AreRising (link + 1) ring
+      → flat_map (link_lines (run_from space (all_of space link)) reason) ring ≡ flat_map (link_lines space reason) ring
+  lines_still reason ring r = all_still (λ n o. flat_map (message_lines n) (pending_or_none o) ++ stop_lines n (stop_at (state_or_never o) (reason n))) ring r

@@ -1,27 +1,26 @@
 -- How one read of the source goes on or ends a replay.
-use Rattle.std.proofs.Common.{◌≡◌, ◌∙◌, ap, sym, refl, subst, arith, ℕ, ◌-◌, ◌<◌, ◌≤◌, List, [], ◌++◌, length, Option, Some, None, append-nil, length-append, inl, inr}
+use Rattle.std.proofs.Common.{◌≡◌, ◌∙◌, ap, sym, refl, subst, arith, ℕ, ◌+◌, ◌-◌, ◌<◌, List, [], ◌++◌, length, take, Option, Some, None, Ok, Err, append-nil, length-append, inl, inr}
 use Rattle.std.specs.Io.KnownBytes.{Consumes, IsAtEnd, Keeps}
 use Rattle.std.proofs.KnownBytes.{Appends-nil, Consumes-nil, Consumes-trans, Consumes-kept}
-use Rattle.sib_io.specs.Causes.{Rose}
 use Rattle.sib_script.proofs.ScriptLaws.{left_begins, left_splits}
 use Rattle.sib_io.proofs.KnownLemmas.{appends_kept, part_kept}
 use Rattle.sib_script.specs.Reading.{fresh}
+use Rattle.sib_app.specs.Doing.{seen}
 use Rattle.sib_app.specs.Output.{IsOutput, answers, last_line, fault_line, space_after}
-use Rattle.sib_app.specs.Ending.{Outside, Ended, Outcome, GivesPart, GivesAnswers, GivesFault}
-use Rattle.sib_app.specs.Session.{Stands, Replays, Stops, Finishes, GivesFront, GivesEnd}
-use Rattle.sib_app.specs.Turn.{Turns}
+use Rattle.sib_app.specs.Ending.{Outside, outside, Ended, Outcome, KeepsCounts, ReadsWithin, GivesPart, GivesAnswers, GivesFault}
+use Rattle.sib_app.specs.Session.{Stands, Replays, Parts, Stops, Finishes, GivesFront, GivesEnd}
+use Rattle.sib_app.specs.Turn.{Turns, ReadsPiece, sink_of}
 use Rattle.sib_app.specs.declared.ending.TheConstants.{INPUT_LIMIT}
 use Rattle.sib_app.specs.declared.ending.Ending.{Ending}
 use Rattle.sib_app.specs.declared.ending.Ending.TheVariants.{Done, BadScript, ReadFault, WriteFault, NoMemory, Spent}
 use Rattle.sib_app.specs.declared.replay.Replay.{Replay}
-use Rattle.sib_app.proofs.EndLemmas.{rose_earlier}
-use Rattle.sib_app.proofs.FeedLemmas.{front_of_replay, front_of_more}
+use Rattle.sib_app.proofs.FeedLemmas.{parts_of_replay, parts_of_more}
 
--- a front of what is written for any bytes that follow is one for those that are left
+-- a prefix of what is written for any bytes that follow is one for those that are left
 part_of_front : (name : List ℕ) (old new : Option (List ℕ)) (read : List ℕ) (left : Option (List ℕ)) → GivesFront name old new read → GivesPart name old new read left
 part_of_front name old new read left f more output e o = f more output o
 
--- a front of what is written at the end is one for those that are left, of which there are none
+-- a prefix of what is written at the end is one for those that are left, of which there are none
 part_of_end : (name : List ℕ) (old new : Option (List ℕ)) (read : List ℕ) (left : Option (List ℕ)) → IsAtEnd left → GivesEnd name old new read → GivesPart name old new read left
 part_of_end name old new read None end f more output e o = absurd (cc)
 part_of_end name old new read (Some xs) end f more output e o =
@@ -31,21 +30,60 @@ part_of_end name old new read (Some xs) end f more output e o =
     some_same : (a b : List ℕ) → ◌≡◌ {A = Option (List ℕ)} (Some a) (Some b) → a ≡ b
     some_same a b e = cc
 
-module _ (name : List ℕ) (old now next : Outside) (read : List ℕ) (left : ℕ) (replay : Replay) where
-  -- the source failed
-  pub turn_fails : Turns name old now read left replay → 0 < left → Keeps now.left next.left → next.given ≡ now.given → now.read_faults ≤ next.read_faults
-      → Rose now.read_faults next.read_faults → next.write_faults ≡ now.write_faults → Ended name old next ReadFault
-  turn_fails t some kept given later rose writes =
+-- what is seen without the counter
+abbrev pub bare : Outside → Outside
+bare o = outside o.left o.given o.read_faults o.write_faults 0
+
+-- a piece was read behind what was answered
+pub record ReadOn (name : List ℕ) (old mid : Outside) (read piece : List ℕ) (replay : Replay) : Type 0 where
+  pub consumed : Consumes old.left mid.left (read ++ piece)
+  pub reads : mid.read_faults ≡ old.read_faults
+  pub replays : Replays name (sink_of old) (sink_of mid) read replay.reader replay.session
+
+module _ (name : List ℕ) (old now mid : Outside) (read : List ℕ) (left : ℕ) (replay : Replay) (buffer : List ℕ) (t : Turns name old now read left replay) (same : mid.steps ≡ now.steps) where
+  -- what was given stays as the sink hands it on
+  flushed : Keeps now.given mid.given → mid.write_faults ≡ now.write_faults → Replays name (sink_of old) (sink_of mid) read replay.reader replay.session
+  flushed kept writes =
       let h = t.replays in
       record {
+        entries = h.entries;
+        events = h.events;
+        allowed = h.allowed;
+        spelled = h.spelled;
+        part = h.part;
+        waiting = h.waiting;
+        running = h.running;
+        taken = h.taken;
+        told = h.told;
+        stands = h.stands;
+        does = record {
+          given = appends_kept old.given now.given mid.given (answers name h.events) h.does.given kept;
+          faults = writes ∙ h.does.faults;
+          steps = omega (arith, same, h.does.steps);
+        };
+      }
+
+  -- the rows are those of the entries that were answered
+  counted : ReadsWithin name old.steps mid.steps read
+  counted = subst (λ n. ReadsWithin name old.steps n read) (sym same) (parts_of_replay name (sink_of old) (sink_of now) read [] replay.reader replay.reader replay.session t.replays).counts
+
+  -- the source failed, or the sink
+  pub turn_failed : (ending : Ending) → 0 < left → ReadsPiece (bare now) (bare mid) buffer (Err ending) → Ended name old mid ending
+  turn_failed Done some r = absurd r
+  turn_failed BadScript some r = absurd r
+  turn_failed NoMemory some r = absurd r
+  turn_failed Spent some r = absurd r
+  turn_failed ReadFault some (kept, writes, rose, stays) =
+      let h = flushed kept writes in
+      record {
         read = read;
-        consumed = Consumes-kept old.left now.left next.left read t.consumed kept;
-        read_later = omega (arith, t.read_later, later);
-        write_later = omega (arith, t.write_later, writes);
+        consumed = Consumes-kept old.left now.left mid.left read t.consumed stays;
         limited = omega (arith, t.counted);
+        counts = counted;
         outcome = (
+          h.does.faults,
+          omega (arith, rose, t.reads),
           omega (arith, t.counted),
-          rose_earlier old.read_faults now.read_faults next.read_faults t.read_later rose,
           left_begins read h.entries replay.reader.unread h.allowed h.spelled h.part,
           replay.reader.unread,
           record {
@@ -53,95 +91,112 @@ module _ (name : List ℕ) (old now next : Outside) (read : List ℕ) (left : �
             events = h.events;
             splits = left_splits read h.entries replay.reader.unread h.allowed h.spelled h.part;
             taken = h.told;
-            given = subst (λ o. Rattle.std.specs.Io.KnownBytes.Appends old.given o (Rattle.sib_app.specs.Output.answers name h.events)) (sym given) h.given;
+            given = h.does.given;
           },
         );
       }
+  turn_failed WriteFault some (kept, rose, stays) = record {
+    read = read;
+    consumed = subst (λ o. Consumes old.left o read) (sym stays) t.consumed;
+    limited = omega (arith, t.counted);
+    counts = counted;
+    outcome = (
+      omega (arith, rose, t.replays.does.faults),
+      λ more output e o. part_kept old.given now.given mid.given output
+          ((parts_of_replay name (sink_of old) (sink_of now) read [] replay.reader replay.reader replay.session t.replays).gives more output o) kept,
+    );
+  }
+
+  -- a piece was read
+  pub turn_read : (count : ℕ) → ReadsPiece (bare now) (bare mid) buffer (Ok count) → ReadOn name old mid read (take count buffer) replay
+  turn_read count (kept, counts, consumed, end) = record {
+    consumed = Consumes-trans old.left now.left mid.left read (take count buffer) t.consumed consumed;
+    reads = counts.reads ∙ t.reads;
+    replays = flushed kept counts.writes;
+  }
+
+module _ (name : List ℕ) (old mid : Outside) (read piece : List ℕ) (replay : Replay) (m : ReadOn name old mid read piece replay) where
+  -- what was given before is a prefix of all
+  before_parts : Parts name (sink_of old) (sink_of mid) (read ++ piece)
+  before_parts = parts_of_more name (sink_of old) (sink_of mid) read piece (parts_of_replay name (sink_of old) (sink_of mid) read [] replay.reader replay.reader replay.session m.replays)
 
   -- the source has nothing left
-  pub turn_finishes : (ending : Ending) → Turns name old now read left replay → 0 < left → Consumes now.left next.left [] → IsAtEnd next.left
-      → now.read_faults ≤ next.read_faults → now.write_faults ≤ next.write_faults
-      → Finishes name old.given next.given now.write_faults next.write_faults read ending → Ended name old next ending
-  turn_finishes ending t some consumed end reads writes f = record {
+  pub turn_finishes : (given : Option (List ℕ)) (risen : ℕ) (ending : Ending) → piece ≡ [] → IsAtEnd mid.left → length read < INPUT_LIMIT
+      → Finishes name (sink_of old) given risen read ending → Ended name old (outside mid.left given mid.read_faults risen mid.steps) ending
+  turn_finishes given risen ending none end below f = record {
     read = read;
-    consumed = subst (Consumes old.left next.left) (append-nil read) (Consumes-trans old.left now.left next.left read [] t.consumed consumed);
-    read_later = omega (arith, t.read_later, reads);
-    write_later = omega (arith, t.write_later, writes);
-    limited = omega (arith, t.counted);
+    consumed = subst (Consumes old.left mid.left) (ap (λ l. read ++ l) none ∙ append-nil read) m.consumed;
+    limited = omega (arith, below);
+    counts = (parts_of_replay name (sink_of old) (sink_of mid) read [] replay.reader replay.reader replay.session m.replays).counts;
     outcome = outcome ending f;
   }
     where
-      below : length read < INPUT_LIMIT
-      below = omega (arith, t.counted)
+      next : Outside
+      next = outside mid.left given mid.read_faults risen mid.steps
 
-      outcome : (e : Ending) → Finishes name old.given next.given now.write_faults next.write_faults read e → Outcome name old next read e
-      outcome Done f = (below, end, f)
-      outcome BadScript f = (below, inr end, f.0, f.1)
-      outcome WriteFault f = (rose_earlier old.write_faults now.write_faults next.write_faults t.write_later f.0, part_of_end name old.given next.given read next.left end f.1)
-      outcome NoMemory f = part_of_end name old.given next.given read next.left end f
+      outcome : (e : Ending) → Finishes name (sink_of old) given risen read e → Outcome name old (outside mid.left given mid.read_faults risen mid.steps) read e
+      outcome Done (kept, f) = (record { reads = m.reads; writes = kept }, below, end, f)
+      outcome BadScript (kept, rest, f) = (record { reads = m.reads; writes = kept }, below, inr end, rest, f)
+      outcome WriteFault (rose, f) = (rose, part_of_end name old.given given read mid.left end f)
+      outcome NoMemory (kept, f) = (record { reads = m.reads; writes = kept }, part_of_end name old.given given read mid.left end f)
       outcome ReadFault f = absurd f
       outcome Spent f = absurd f
 
   -- as many bytes were taken as may be
-  pub turn_spends : (piece : List ℕ) → Turns name old now read left replay → Consumes now.left next.left piece → length piece ≡ left → next.given ≡ now.given
-      → now.read_faults ≤ next.read_faults → next.write_faults ≡ now.write_faults → Ended name old next Spent
-  turn_spends piece t consumed all given reads writes = record {
+  pub turn_spends : length (read ++ piece) ≡ INPUT_LIMIT → Ended name old mid Spent
+  turn_spends all = record {
     read = read ++ piece;
-    consumed = Consumes-trans old.left now.left next.left read piece t.consumed consumed;
-    read_later = omega (arith, t.read_later, reads);
-    write_later = omega (arith, t.write_later, writes);
-    limited = omega (arith, t.counted, all, length-append read piece);
-    outcome = (
-      omega (arith, t.counted, all, length-append read piece),
-      part_of_front name old.given next.given (read ++ piece) next.left (front_of_more name old.given next.given read piece
-          (subst (λ o. GivesFront name old.given o read) (sym given) (front_of_replay name old.given now.given read [] replay.reader replay.reader replay.session t.replays))),
-    );
+    consumed = m.consumed;
+    limited = omega (arith, all);
+    counts = before_parts.counts;
+    outcome = (record { reads = m.reads; writes = m.replays.does.faults }, all, part_of_front name old.given mid.given (read ++ piece) mid.left before_parts.gives);
   }
 
   -- what was read could not all be answered
-  pub turn_stops : (piece : List ℕ) (ending : Ending) → Turns name old now read left replay → Consumes now.left next.left piece → length piece < left
-      → now.read_faults ≤ next.read_faults → now.write_faults ≤ next.write_faults
-      → Stops name old.given next.given now.write_faults next.write_faults (read ++ piece) ending → Ended name old next ending
-  turn_stops piece ending t consumed short reads writes s = record {
+  pub turn_stops : (given : Option (List ℕ)) (risen steps : ℕ) (ending : Ending) → length (read ++ piece) < INPUT_LIMIT
+      → Stops name (sink_of old) (seen given risen steps) (read ++ piece) ending → Ended name old (outside mid.left given mid.read_faults risen steps) ending
+  turn_stops given risen steps ending below s = record {
     read = read ++ piece;
-    consumed = Consumes-trans old.left now.left next.left read piece t.consumed consumed;
-    read_later = omega (arith, t.read_later, reads);
-    write_later = omega (arith, t.write_later, writes);
-    limited = omega (arith, t.counted, short, length-append read piece);
+    consumed = m.consumed;
+    limited = omega (arith, below);
+    counts = counts ending s;
     outcome = outcome ending s;
   }
     where
-      below : length (read ++ piece) < INPUT_LIMIT
-      below = omega (arith, t.counted, short, length-append read piece)
+      counts : (e : Ending) → Stops name (sink_of old) (seen given risen steps) (read ++ piece) e → ReadsWithin name old.steps steps (read ++ piece)
+      counts Done s = absurd s
+      counts BadScript s = s.2
+      counts WriteFault s = s.1.counts
+      counts NoMemory s = s.1.counts
+      counts ReadFault s = absurd s
+      counts Spent s = absurd s
 
-      outcome : (e : Ending) → Stops name old.given next.given now.write_faults next.write_faults (read ++ piece) e → Outcome name old next (read ++ piece) e
+      outcome : (e : Ending) → Stops name (sink_of old) (seen given risen steps) (read ++ piece) e → Outcome name old (outside mid.left given mid.read_faults risen steps) (read ++ piece) e
       outcome Done s = absurd s
-      outcome BadScript s = (below, inl s.0, s.1, s.2)
-      outcome WriteFault s = (rose_earlier old.write_faults now.write_faults next.write_faults t.write_later s.0, part_of_front name old.given next.given (read ++ piece) next.left s.1)
-      outcome NoMemory s = part_of_front name old.given next.given (read ++ piece) next.left s
+      outcome BadScript (kept, dead, within, rest, gives) = (record { reads = m.reads; writes = kept }, below, inl dead, rest, gives)
+      outcome WriteFault (rose, p) = (rose, part_of_front name old.given given (read ++ piece) mid.left p.gives)
+      outcome NoMemory (kept, p) = (record { reads = m.reads; writes = kept }, part_of_front name old.given given (read ++ piece) mid.left p.gives)
       outcome ReadFault s = absurd s
       outcome Spent s = absurd s
 
   -- what was read was answered
-  pub turn_goes_on : (piece : List ℕ) (count : ℕ) (new : Replay) → Turns name old now read left replay → Consumes now.left next.left piece → length piece ≡ count → count < left
-      → now.read_faults ≤ next.read_faults → now.write_faults ≤ next.write_faults
-      → Replays name old.given next.given (read ++ piece) new.reader new.session → Turns name old next (read ++ piece) (left - count) new
-  turn_goes_on piece count new t consumed counted short reads writes r = record {
-    consumed = Consumes-trans old.left now.left next.left read piece t.consumed consumed;
-    read_later = omega (arith, t.read_later, reads);
-    write_later = omega (arith, t.write_later, writes);
-    counted = omega (arith, t.counted, counted, short, length-append read piece);
+  pub turn_goes_on : (given : Option (List ℕ)) (risen steps left count : ℕ) (new : Replay) → length read + left ≡ INPUT_LIMIT → length piece ≡ count → count < left
+      → Replays name (sink_of old) (seen given risen steps) (read ++ piece) new.reader new.session
+      → Turns name old (outside mid.left given mid.read_faults risen steps) (read ++ piece) (left - count) new
+  turn_goes_on given risen steps left count new all counted short r = record {
+    consumed = m.consumed;
+    reads = m.reads;
+    counted = omega (arith, all, counted, short, length-append read piece);
     replays = r;
   }
 
 -- a replay that has read nothing
-pub turns_start : (name : List ℕ) (now : Outside) (replay : Replay) → replay.reader ≡ fresh → Stands name replay.session [] → replay.session.core.count ≡ 0 → Turns name now now [] INPUT_LIMIT replay
-turns_start name now replay is stands none = record {
+pub turns_start : (name : List ℕ) (now : Outside) (replay : Replay) → replay.reader ≡ fresh → Stands name replay.session [] → Turns name now now [] INPUT_LIMIT replay
+turns_start name now replay is stands = record {
   consumed = Consumes-nil now.left;
-  read_later = omega arith;
-  write_later = omega arith;
+  reads = refl;
   counted = omega arith;
-  replays = subst (λ r. Replays name now.given now.given [] r replay.session) (sym is) (record {
+  replays = subst (λ r. Replays name (sink_of now) (sink_of now) [] r replay.session) (sym is) (record {
     entries = [];
     events = [];
     allowed = tt;
@@ -152,37 +207,25 @@ turns_start name now replay is stands none = record {
     taken = refl;
     told = refl;
     stands = stands;
-    counted = omega (arith, none);
-    given = Appends-nil now.given;
+    does = record { given = Appends-nil now.given; faults = refl; steps = omega arith };
   });
 }
 
-module _ (name : List ℕ) (old mid next : Outside) where
-  -- a flush leaves an ending as it is
-  pub ended_flushed : (ending : Ending) → Ended name old mid ending → next.left ≡ mid.left → Keeps mid.given next.given → next.read_faults ≡ mid.read_faults
-      → mid.write_faults ≤ next.write_faults → Ended name old next ending
-  ended_flushed ending e left kept reads writes = record {
-    read = e.read;
-    consumed = subst (λ o. Consumes old.left o e.read) (sym left) e.consumed;
-    read_later = omega (arith, e.read_later, reads);
-    write_later = omega (arith, e.write_later, writes);
-    limited = e.limited;
-    outcome = outcome ending e.outcome;
-  }
+-- a flush that hands all on leaves an ending as it is
+module _ (name : List ℕ) (old mid : Outside) (given : Option (List ℕ)) (risen : ℕ) (kept : Keeps mid.given given) (writes : risen ≡ mid.write_faults) where
+  pub ended_flushed : (ending : Ending) → Ended name old mid ending → Ended name old (outside mid.left given mid.read_faults risen mid.steps) ending
+  ended_flushed ending e = record { read = e.read; consumed = e.consumed; limited = e.limited; counts = e.counts; outcome = outcome ending e.outcome }
     where
-      end : IsAtEnd mid.left → IsAtEnd next.left
-      end h = subst IsAtEnd (sym left) h
-
-      answered : (rest : List ℕ) → GivesAnswers name old.given mid.given e.read rest → GivesAnswers name old.given next.given e.read rest
+      answered : (rest : List ℕ) → GivesAnswers name old.given mid.given e.read rest → GivesAnswers name old.given given e.read rest
       answered rest g = record {
         entries = g.entries;
         events = g.events;
         splits = g.splits;
         taken = g.taken;
-        given = appends_kept old.given mid.given next.given (answers name g.events) g.given kept;
+        given = appends_kept old.given mid.given given (answers name g.events) g.given kept;
       }
 
-      faulty : (rest : List ℕ) → GivesFault name old.given mid.given e.read rest → GivesFault name old.given next.given e.read rest
+      faulty : (rest : List ℕ) → GivesFault name old.given mid.given e.read rest → GivesFault name old.given given e.read rest
       faulty rest g = record {
         entries = g.entries;
         events = g.events;
@@ -191,27 +234,30 @@ module _ (name : List ℕ) (old mid next : Outside) where
         some = g.some;
         at = g.at;
         taken = g.taken;
-        given = appends_kept old.given mid.given next.given (answers name g.events ++ fault_line g.place) g.given kept;
+        given = appends_kept old.given mid.given given (answers name g.events ++ fault_line g.place) g.given kept;
       }
 
-      part : GivesPart name old.given mid.given e.read mid.left → GivesPart name old.given next.given e.read next.left
-      part p more output l o = part_kept old.given mid.given next.given output (p more output (sym left ∙ l) o) kept
+      part : GivesPart name old.given mid.given e.read mid.left → GivesPart name old.given given e.read mid.left
+      part p more output l o = part_kept old.given mid.given given output (p more output l o) kept
 
-      outcome : (x : Ending) → Outcome name old mid e.read x → Outcome name old next e.read x
-      outcome Done (below, at_end, g) = (
+      counts : KeepsCounts old mid → KeepsCounts old (outside mid.left given mid.read_faults risen mid.steps)
+      counts k = record { reads = k.reads; writes = writes ∙ k.writes }
+
+      outcome : (x : Ending) → Outcome name old mid e.read x → Outcome name old (outside mid.left given mid.read_faults risen mid.steps) e.read x
+      outcome Done (k, below, at_end, g) = (
+        counts k,
         below,
-        end at_end,
+        at_end,
         record {
           entries = g.entries;
           events = g.events;
           script = g.script;
           taken = g.taken;
-          given = appends_kept old.given mid.given next.given (answers name g.events ++ last_line (space_after name g.events)) g.given kept;
+          given = appends_kept old.given mid.given given (answers name g.events ++ last_line (space_after name g.events)) g.given kept;
         },
       )
-      outcome BadScript (below, inl dead, rest, g) = (below, inl dead, rest, faulty rest g)
-      outcome BadScript (below, inr at_end, rest, g) = (below, inr (end at_end), rest, faulty rest g)
-      outcome ReadFault (below, rose, begins, rest, g) = (below, omega (arith, rose, reads), begins, rest, answered rest g)
+      outcome BadScript (k, below, where_, rest, g) = (counts k, below, where_, rest, faulty rest g)
+      outcome ReadFault (writes_, rose, below, begins, rest, g) = (writes ∙ writes_, rose, below, begins, rest, answered rest g)
       outcome WriteFault (rose, p) = (omega (arith, rose, writes), part p)
-      outcome NoMemory p = part p
-      outcome Spent (full, p) = (full, part p)
+      outcome NoMemory (k, p) = (counts k, part p)
+      outcome Spent (k, full, p) = (counts k, full, part p)

@@ -9,7 +9,7 @@ use Rattle.ssap_shape.specs.declared.request.Arrived.TheVariants.{NotRequest}
 use Rattle.session_core.specs.Space.{empty_space}
 use Rattle.session_core.specs.declared.call.Reply.TheVariants.{Done}
 use Rattle.sib_script.specs.declared.entry.Entry.TheVariants.{NewLink, Bytes, End}
-use Rattle.sib_app.specs.Output.{Opens, Hears, Arrives, Stops, Ends, Closed, AreLet, IsHeard, IsEnded, Writes, message_lines, stop_line, closed_line, full_line, fault_line, last_line, kind_of, event_lines, link_lines, reply_lines, farewell, heard}
+use Rattle.sib_app.specs.Output.{Opens, Hears, Arrives, Stops, Ends, Closed, AreLet, IsHeard, IsEnded, Writes, message_lines, header_line, stop_line, closed_line, full_line, fault_line, last_line, kind_of, event_lines, link_lines, reply_lines, farewell, heard}
 use Rattle.sib_app.specs.declared.why.Why.TheVariants.{Syntax, Long, Cut, Request, Overrun}
 
 -- two links are open at once, and nothing is written
@@ -146,7 +146,7 @@ last_or_fault name = (refl, refl)
 
 -- a message of two bytes
 message_of_two : message_lines 12 (codes "hi") ≡ codes "<12 2" ++ 10 ∷ codes "hi" ++ 10 ∷ []
-unfolding message_lines digits
+unfolding message_lines header_line digits
 message_of_two = refl
 
 -- messages that begin at 0 and at 7 and are no requests

@@ -22,6 +22,7 @@ use Rattle.session_core.specs.declared.call.Reply.TheVariants.{Done, TooManyLink
 use Rattle.sib_script.specs.declared.entry.Entry.{Entry}
 use Rattle.sib_script.specs.declared.entry.Entry.TheVariants.{NewLink, Bytes, End}
 use Rattle.sib_script.specs.Script.{Splits, IsPlace}
+use Rattle.session_core.specs.Reads.{costs}
 use Rattle.sib_app.specs.declared.why.Why.{Why}
 use Rattle.sib_app.specs.declared.why.Why.TheVariants.{Syntax, Long, Cut, Request, Overrun}
 
@@ -84,6 +85,22 @@ calls_from space (event ∷ events) = calls_at space event ++ calls_from (run_fr
 -- the history of the calls that events make in the space of this name
 abbrev pub history : List ℕ → List Event → List Call
 history name events = calls_from (empty_space name) events
+
+-- the most rows that an event reads in a space
+abbrev pub event_rows : Space → Event → ℕ
+event_rows space event = costs space (calls_at space event)
+
+-- the most rows that events read in a space
+abbrev pub rows_from : Space → List Event → ℕ
+rows_from space events = costs space (calls_from space events)
+
+-- the most rows that events read after others
+abbrev pub rows_after : List ℕ → List Event → List Event → ℕ
+rows_after name before events = rows_from (space_after name before) events
+
+-- the most rows that the calls of a history read
+abbrev pub rows : List ℕ → List Event → ℕ
+rows name events = costs (empty_space name) (history name events)
 
 -- the bytes that an event brings on this link
 abbrev pub brought_on : ℕ → Event → List ℕ
@@ -182,9 +199,13 @@ AreTakenAfter name before (entry ∷ entries) events = (first : List Event) × (
 abbrev pub AreTaken : List ℕ → List Entry → List Event → Type 0
 AreTaken name entries events = AreTakenAfter name [] entries events
 
--- a message as it is written: its link, its length, and its bytes
+-- the line before a message: its link and its length
+unfoldable pub header_line : ℕ → ℕ → List ℕ
+header_line link size = codes "<" ++ decimal link ++ codes " " ++ decimal size ++ 10 ∷ []
+
+-- a message as it is written, behind a line with its link and its length
 unfoldable pub message_lines : ℕ → List ℕ → List ℕ
-message_lines link message = codes "<" ++ decimal link ++ codes " " ++ decimal (length message) ++ 10 ∷ [] ++ message ++ 10 ∷ []
+message_lines link message = header_line link (length message) ++ (message ++ 10 ∷ [])
 
 -- the place that is told of a stop
 abbrev pub place_of : Why → ℕ

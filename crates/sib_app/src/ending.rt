@@ -1,5 +1,10 @@
 ghost use Rattle.std.specs.Prelude.{◌≡◌};
-ghost use Rattle.sib_app.specs.Ending.{status_of};
+ghost use Rattle.sib_app.specs.Ending.{status_of, ending_of};
+ghost use Rattle.sib_app.specs.declared.ending.Fault.TheVariants.{NoMemory as OutOfMemory, WriteFault as SinkFailed};
+
+use m3_terms::NoMemory;
+use sib_io::Failed;
+use std::alloc::AllocFailed;
 
 /// The most bytes that a command takes from its input.
 pub const INPUT_LIMIT: u64 = 1_099_511_627_776;
@@ -15,7 +20,7 @@ pub enum Ending {
     ReadFault,
     /// The sink failed.
     WriteFault,
-    /// The system gave no memory.
+    /// Out of memory, or the space can count no further call.
     NoMemory,
     /// So many bytes were taken that the end is not waited for.
     Spent,
@@ -34,5 +39,50 @@ impl Ending {
             Ending::NoMemory => 6,
             Ending::Spent => 7,
         }
+    }
+}
+
+/// Why an entry is not answered to its end.
+#[derive(Clone, Copy, Debug, PartialEq, Eq)]
+pub enum Fault {
+    /// Out of memory, or the space can count no further call.
+    NoMemory,
+    /// The sink failed.
+    WriteFault,
+}
+
+impl Fault {
+    /// How a replay ends at this fault.
+    pub fn ending(self) -> Ending
+        ensures { result ≡ ending_of self }
+    {
+        match self {
+            Fault::NoMemory => Ending::NoMemory,
+            Fault::WriteFault => Ending::WriteFault,
+        }
+    }
+}
+
+impl From<NoMemory> for Fault {
+    ghost from_gives = { λ _ fault. fault ≡ OutOfMemory };
+
+    fn from(_refused: NoMemory) -> Fault {
+        Fault::NoMemory
+    }
+}
+
+impl<T: Drop> From<AllocFailed<T>> for Fault {
+    ghost from_gives = { λ _ fault. fault ≡ OutOfMemory };
+
+    fn from(_refused: AllocFailed<T>) -> Fault {
+        Fault::NoMemory
+    }
+}
+
+impl From<Failed> for Fault {
+    ghost from_gives = { λ _ fault. fault ≡ SinkFailed };
+
+    fn from(_failed: Failed) -> Fault {
+        Fault::WriteFault
     }
 }

@@ -1,91 +1,84 @@
-ghost use Rattle.std.specs.Prelude.{ℕ, ◌≡◌, ◌+◌, ◌*◌, ◌^◌, ◌<◌, ◌≤◌, ◌++◌, List, length, Option, Some, None, IfOk, OnOk, IfSome, true};
+ghost use Rattle.std.specs.Prelude.{ℕ, ◌≡◌, ◌+◌, ◌^◌, ◌<◌, ◌≤◌, List, length, IfOk, OnOk, IfSome, true};
 ghost use Rattle.link_table.specs.Links.{is_open, state_of};
-ghost use Rattle.ssap_shape.specs.declared.request.Arrived.TheVariants.{NotRequest};
-ghost use Rattle.session_core.specs.Runs.{run_from};
-ghost use Rattle.sib_app.specs.Output.{Event, Stops, calls_at, event_lines, space_after};
-ghost use Rattle.sib_app.specs.declared.why.Why.{Why as Cause};
-ghost use Rattle.sib_app.specs.Session.{why_of, reason_from, IsBehind, IsDrained, IsFollowing, Follows, Hearing, HearsSome, HearsAll, TakesFramed, EndsAs};
+ghost use Rattle.sib_app.specs.Doing.{Seen, seen, Does};
+ghost use Rattle.sib_app.specs.Output.{Event, answers_after, rows_after, space_after};
+ghost use Rattle.sib_app.specs.Session.{reason_from, IsBehind, IsDrained, IsFollowing, Follows, Hearing, HearsOn, HearsAll, TakesFramed, Refuses, EndsAs};
 
 use crate::acting::{Reason, act};
+use crate::ending::Fault;
 use crate::why::Why;
 use m3_terms::{NoMemory, Steps};
 use session_core::{Call, Core, LinkState};
+use sib_io::Sink;
 use ssap_decode::{Decoder, Framed, Stop};
 use ssap_shape::{Arrived, shape};
 use std::alloc::Global;
 use std::sync::ledger::Ledger;
 use std::thread::Threads;
 
-/// Takes the bytes that come on an open link, up to where it stops, and says what is written for them.
-pub fn hear_all<R: Threads + Sync, L: Ledger>(
+/// Takes the bytes that come on an open link, up to where it stops, and answers them.
+pub fn hear_all<R: Threads + Sync, K: Sink, L: Ledger>(
     alloc: Global,
     rt: &R,
     link: u32,
     core: &mut Core,
     decoder: &mut Decoder,
     bytes: &[u8],
+    sink: &mut K,
     steps: &mut Steps<L>,
-) -> Result<Vec<u8>, NoMemory>
+) -> Result<(), Fault>
     requires fits { decoder.old.taken + length bytes.now < 2 ^ 63 }
     requires following { IsFollowing decoder.old }
     requires behind { IsBehind core.old.space }
     requires drained { IsDrained core.old.space }
     requires runs { is_open (state_of core.old.space.links link) ≡ true }
-    requires room { core.old.count + 2 * length bytes.now ≤ 2 ^ 62 }
-    ensures counted { OnOk result (core.new.count ≤ core.old.count + 2 * length bytes.now) }
-    ensures drained { OnOk result (IsDrained core.new.space) }
-    ensures heard { (name : List ℕ) (before : List Event) (heard : List ℕ) (came : ℕ) → core.old.space ≡ space_after name before
-        → Follows decoder.old heard came
-        → IfOk result (λ lines. HearsAll name before link came heard bytes.now core.new.space decoder.new lines.items) }
-    ensures cost { steps.new ≡ steps.old }
+    ensures { (name : List ℕ) (before : List Event) (heard : List ℕ) (came : ℕ) → core.old.space ≡ space_after name before → Follows decoder.old heard came
+        → HearsAll name before link came heard bytes.now (seen (K.given sink.old) (K.faults sink.old) steps.old) (seen (K.given sink.new) (K.faults sink.new) steps.new)
+        core.new.space decoder.new result }
 {
-    let mut lines = Vec::new(alloc);
     let mut rest = bytes;
     while !rest.is_empty() {
-        match hear_some(alloc, rt, link, core, decoder, rest, &mut lines, steps)? {
+        match hear_some(alloc, rt, link, core, decoder, rest, sink, steps)? {
             Some(count) => rest = rest.split_at(count).1,
-            None => return Ok(lines),
+            None => return Ok(()),
         }
     }
-    Ok(lines)
+    Ok(())
 }
 
 // Takes bytes that come on a link up to the end of a message or of the bytes, and answers the message. Says how many bytes
 // that took, or `None` where the link isn't open any more.
-fn hear_some<R: Threads + Sync, L: Ledger>(
+fn hear_some<R: Threads + Sync, K: Sink, L: Ledger>(
     alloc: Global,
     rt: &R,
     link: u32,
     core: &mut Core,
     decoder: &mut Decoder,
     bytes: &[u8],
-    lines: &mut Vec<u8>,
+    sink: &mut K,
     steps: &mut Steps<L>,
-) -> Result<Option<usize>, NoMemory>
+) -> Result<Option<usize>, Fault>
     requires some { 0 < length bytes.now }
     requires fits { decoder.old.taken + length bytes.now < 2 ^ 63 }
     requires following { IsFollowing decoder.old }
     requires drained { IsDrained core.old.space }
-    requires room { core.old.count + 2 ≤ 2 ^ 62 }
     ensures within { IfOk result (λ took. IfSome took (λ count. (0 < count) × (count ≤ length bytes.now))) }
-    ensures counted { OnOk result (core.new.count ≤ core.old.count + 2) }
     ensures drained { OnOk result (IsDrained core.new.space) }
-    ensures heard { (name : List ℕ) (before : List Event) (heard : List ℕ) (came : ℕ) (events : List Event)
-        → Hearing name before link came heard events core.old.space decoder.old lines.old.items
-        → IfOk result (λ took. HearsSome name before link came heard events bytes.now took core.new.space decoder.new lines.new.items) }
-    ensures cost { steps.new ≡ steps.old }
+    ensures heard { (name : List ℕ) (before : List Event) (heard : List ℕ) (came : ℕ) (events : List Event) (old : Seen) → Hearing name before link came heard events core.old.space decoder.old
+        → Does old (seen (K.given sink.old) (K.faults sink.old) steps.old) (answers_after name before events) (rows_after name before events)
+        → HearsOn name before link came heard events bytes.now old (seen (K.given sink.new) (K.faults sink.new) steps.new) core.new.space decoder.new result }
 {
     let count = match decoder.feed(alloc, bytes) {
         Ok(count) => count,
         Err(stop) => {
-            refuse(alloc, rt, link, core, stop, lines, steps)?;
+            refuse(alloc, rt, link, core, stop, sink, steps)?;
             return Ok(None);
         }
     };
     let Some(framed) = decoder.next() else {
         return Ok(Some(count));
     };
-    if take_message(alloc, rt, link, core, framed, lines, steps)? {
+    if take_message(alloc, rt, link, core, framed, sink, steps)? {
         Ok(Some(count))
     } else {
         Ok(None)
@@ -93,21 +86,18 @@ fn hear_some<R: Threads + Sync, L: Ledger>(
 }
 
 // Takes a message, and says whether its link is open then.
-fn take_message<R: Threads + Sync, L: Ledger>(
+fn take_message<R: Threads + Sync, K: Sink, L: Ledger>(
     alloc: Global,
     rt: &R,
     link: u32,
     core: &mut Core,
     framed: Framed,
-    lines: &mut Vec<u8>,
+    sink: &mut K,
     steps: &mut Steps<L>,
-) -> Result<bool, NoMemory>
+) -> Result<bool, Fault>
     requires drained { IsDrained core.old.space }
-    requires room { core.old.count + 2 ≤ 2 ^ 62 }
-    ensures counted { OnOk result (core.new.count ≤ core.old.count + 2) }
     ensures drained { OnOk result (IsDrained core.new.space) }
-    ensures taken { IfOk result (λ on. TakesFramed link core.old.space framed lines.old.items on core.new.space lines.new.items) }
-    ensures cost { steps.new ≡ steps.old }
+    ensures taken { TakesFramed link core.old.space framed core.new.space (seen (K.given sink.old) (K.faults sink.old) steps.old) (seen (K.given sink.new) (K.faults sink.new) steps.new) result }
 {
     let arrived = shape(alloc, &framed.envelope)?;
     let reason = reason_of(link, framed.start, &arrived);
@@ -117,7 +107,7 @@ fn take_message<R: Threads + Sync, L: Ledger>(
         core,
         Call::Deliver(link, arrived),
         reason,
-        lines,
+        sink,
         steps,
     )?;
     Ok(runs(core, link))
@@ -141,29 +131,24 @@ fn reason_of(link: u32, start: u64, arrived: &Arrived) -> Option<Reason>
 }
 
 // Ends a link whose decoder stopped.
-fn refuse<R: Threads + Sync, L: Ledger>(
+fn refuse<R: Threads + Sync, K: Sink, L: Ledger>(
     alloc: Global,
     rt: &R,
     link: u32,
     core: &mut Core,
     stop: Stop,
-    lines: &mut Vec<u8>,
+    sink: &mut K,
     steps: &mut Steps<L>,
-) -> Result<(), NoMemory>
+) -> Result<(), Fault>
     requires drained { IsDrained core.old.space }
-    requires room { core.old.count + 2 ≤ 2 ^ 62 }
-    ensures counted { OnOk result (core.new.count ≤ core.old.count + 2) }
     ensures drained { OnOk result (IsDrained core.new.space) }
-    ensures refused { OnOk result ((why : Cause) × (why_of stop ≡ Some why)
-        × (core.new.space ≡ run_from core.old.space (calls_at core.old.space (Stops link why)))
-        × (lines.new.items ≡ lines.old.items ++ event_lines core.old.space (Stops link why))) }
-    ensures cost { steps.new ≡ steps.old }
+    ensures refused { Refuses link core.old.space stop core.new.space (seen (K.given sink.old) (K.faults sink.old) steps.old) (seen (K.given sink.new) (K.faults sink.new) steps.new) result }
 {
     let reason = Reason {
         link,
         why: Why::of(stop)?,
     };
-    act(alloc, rt, core, Call::End(link), Some(reason), lines, steps)?;
+    act(alloc, rt, core, Call::End(link), Some(reason), sink, steps)?;
     Ok(())
 }
 

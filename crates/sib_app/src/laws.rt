@@ -1,6 +1,7 @@
 ghost use Rattle.std.specs.Prelude.{◌≡◌, List, ℕ};
 ghost use Rattle.sib_script.specs.declared.entry.Entry.{Entry};
 ghost use Rattle.session_core.specs.Runs.{run};
+ghost use Rattle.sib_app.specs.Lines.{MessagesAreSent};
 ghost use Rattle.sib_app.specs.Output.{Event, AreTaken, IsOutput, space_after, history};
 
 /// What the entries of a script are taken as is told by them, and what is written for an input by its bytes.
@@ -18,4 +19,10 @@ pub fn outputs_exist()
 /// The space behind events is the space behind their calls.
 pub fn spaces_are_run()
     ensures { (name : List ℕ) (events : List Event) → space_after name events ≡ run name (history name events) }
+{}
+
+/// The answers to events are lines, and the messages among them are, for each link, those that the history of the events
+/// sent on it, in order. No event loses a link, so no message that was sent is dropped before it is written.
+pub fn messages_are_written_as_sent()
+    ensures { MessagesAreSent }
 {}

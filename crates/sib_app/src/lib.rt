@@ -9,10 +9,8 @@ mod lines;
 mod replay;
 mod run;
 mod session;
-#[cfg(test)]
-mod tests;
 mod why;
 
 pub use ending::{Ending, INPUT_LIMIT};
-pub use laws::{outputs_are_told, outputs_exist, spaces_are_run};
+pub use laws::{messages_are_written_as_sent, outputs_are_told, outputs_exist, spaces_are_run};
 pub use run::sib_run;

@@ -1,16 +1,15 @@
-ghost use Rattle.std.specs.Prelude.{◌≡◌, ◌⊎◌, ℕ, ◌+◌, ◌*◌, ◌^◌, ◌<◌, ◌≤◌, ◌++◌, List, [], length, take, Option, None, IfOk, IfErr, OnOk};
+ghost use Rattle.std.specs.Prelude.{◌≡◌, ◌⊎◌, ℕ, ◌+◌, ◌^◌, ◌<◌, ◌≤◌, ◌++◌, List, [], length, take, IfOk, OnOk};
+ghost use Rattle.sib_app.specs.Doing.{Seen, seen};
 ghost use Rattle.sib_app.specs.Output.{fault_line};
-ghost use Rattle.sib_script.specs.declared.entry.Entry.{Entry as ScriptEntry};
 ghost use Rattle.sib_script.specs.Reading.{fresh};
-ghost use Rattle.sib_app.specs.Output.{Event};
-ghost use Rattle.sib_app.specs.Session.{CanAnswer, Delivers, Stands, WritesLast, weight};
+ghost use Rattle.sib_app.specs.Session.{Stands, WritesLast};
 ghost use Rattle.sib_app.specs.declared.ending.Ending.TheVariants.{Done as AllDone, BadScript as NoScript, NoMemory as OutOfMemory};
 ghost use Rattle.sib_script.specs.declared.reader.ScriptFault.TheVariants.{BadScript as FaultAt, NoMemory as NoRoom};
 
-use crate::ending::Ending;
+use crate::ending::{Ending, Fault};
 use crate::lines::fault;
 use crate::session::Session;
-use m3_terms::{NoMemory, Steps, Text};
+use m3_terms::{Steps, Text};
 use sib_io::Sink;
 use sib_script::{Entry, ScriptFault, ScriptReader};
 use std::alloc::Global;
@@ -24,22 +23,13 @@ pub struct Replay {
     session: Session,
 }
 
-impl From<NoMemory> for Ending {
-    ghost from_gives = { λ _ ending. ending ≡ OutOfMemory };
-
-    fn from(_refused: NoMemory) -> Ending {
-        Ending::NoMemory
-    }
-}
-
 impl Replay {
-    ghost use Rattle.sib_app.specs.Session.{Replays, Holds, Fails, Stops, Finishes, IsOngoing, IsHeld};
+    ghost use Rattle.sib_app.specs.Session.{Replays, Feeds, FeedsAll, Settles, Holds, Finishes, IsOngoing, IsHeld};
 
     /// A replay that has read nothing, in a space of this name.
     pub fn new(alloc: Global, name: Text) -> Replay
         ensures reader { result.reader ≡ fresh }
         ensures session { Stands name result.session [] }
-        ensures count { result.session.core.count ≡ 0 }
     {
         Replay {
             reader: ScriptReader::new(alloc),
@@ -58,14 +48,9 @@ impl Replay {
     ) -> Result<(), Ending>
         requires fits { self.old.reader.taken + length bytes.now < 2 ^ 60 }
         requires ongoing { IsOngoing self.old.reader self.old.session }
-        ensures later { K.faults sink.old ≤ K.faults sink.new }
-        ensures ok { (name : List ℕ) (old : Option (List ℕ)) (read : List ℕ)
-            → Replays name old (K.given sink.old) read self.old.reader self.old.session
-            → OnOk result (Replays name old (K.given sink.new) (read ++ bytes.now) self.new.reader self.new.session) }
-        ensures err { (name : List ℕ) (old : Option (List ℕ)) (read : List ℕ)
-            → Replays name old (K.given sink.old) read self.old.reader self.old.session
-            → IfErr result (Stops name old (K.given sink.new) (K.faults sink.old) (K.faults sink.new) (read ++ bytes.now)) }
-        ensures cost { steps.new ≡ steps.old }
+        ensures { (name : List ℕ) (old : Seen) (read : List ℕ)
+            → Replays name old (seen (K.given sink.old) (K.faults sink.old) steps.old) read self.old.reader self.old.session
+            → FeedsAll name old (seen (K.given sink.new) (K.faults sink.new) steps.new) (read ++ bytes.now) self.new.reader self.new.session result }
     {
         let mut rest = bytes;
         while !rest.is_empty() {
@@ -78,11 +63,10 @@ impl Replay {
     /// Says how a replay ends after which no byte follows, and writes the last line behind a script, and the place of the
     /// fault behind what is none.
     pub fn finish<K: Sink>(&mut self, alloc: Global, sink: &mut K) -> Ending
-        requires { IsOngoing self.old.reader self.old.session }
-        ensures later { K.faults sink.old ≤ K.faults sink.new }
-        ensures finished { (name : List ℕ) (old : Option (List ℕ)) (read : List ℕ)
-            → Replays name old (K.given sink.old) read self.old.reader self.old.session
-            → Finishes name old (K.given sink.new) (K.faults sink.old) (K.faults sink.new) read result }
+        requires ongoing { IsOngoing self.old.reader self.old.session }
+        ensures { (name : List ℕ) (old : Seen) (steps : ℕ) (read : List ℕ)
+            → Replays name old (seen (K.given sink.old) (K.faults sink.old) steps) read self.old.reader self.old.session
+            → Finishes name old (K.given sink.new) (K.faults sink.new) read result }
     {
         if let Err(fault) = self.reader.end() {
             return refuse(alloc, sink, fault);
@@ -108,23 +92,21 @@ impl Replay {
         ensures within { IfOk result (λ count. (0 < count) × (count ≤ length bytes.now)) }
         ensures taken { IfOk result (λ count. self.new.reader.taken ≡ self.old.reader.taken + count) }
         ensures ongoing { OnOk result (IsOngoing self.new.reader self.new.session) }
-        ensures later { K.faults sink.old ≤ K.faults sink.new }
-        ensures ok { (name : List ℕ) (old : Option (List ℕ)) (read : List ℕ)
-            → Replays name old (K.given sink.old) read self.old.reader self.old.session
-            → IfOk result (λ count. Replays name old (K.given sink.new) (read ++ take count bytes.now) self.new.reader self.new.session) }
-        ensures err { (name : List ℕ) (old : Option (List ℕ)) (read : List ℕ)
-            → Replays name old (K.given sink.old) read self.old.reader self.old.session
-            → IfErr result (Stops name old (K.given sink.new) (K.faults sink.old) (K.faults sink.new) (read ++ bytes.now)) }
-        ensures cost { steps.new ≡ steps.old }
+        ensures fed { (name : List ℕ) (old : Seen) (read : List ℕ)
+            → Replays name old (seen (K.given sink.old) (K.faults sink.old) steps.old) read self.old.reader self.old.session
+            → Feeds name old (seen (K.given sink.new) (K.faults sink.new) steps.new) read bytes.now self.new.reader self.new.session result }
     {
         let count = match self.reader.feed(alloc, bytes) {
             Ok(count) => count,
             Err(fault) => return Err(refuse(alloc, sink, fault)),
         };
-        if let Some(entry) = self.reader.next() {
-            self.answer(alloc, rt, sink, entry, steps)?;
+        let Some(entry) = self.reader.next() else {
+            return Ok(count);
+        };
+        match self.answer(alloc, rt, sink, entry, steps) {
+            Ok(()) => Ok(count),
+            Err(fault) => Err(fault.ending()),
         }
-        Ok(count)
     }
 
     // Answers one entry.
@@ -135,54 +117,22 @@ impl Replay {
         sink: &mut K,
         entry: Entry,
         steps: &mut Steps<L>,
-    ) -> Result<(), Ending>
+    ) -> Result<(), Fault>
         requires held { IsHeld entry self.old.reader self.old.session }
         ensures reader { self.new.reader ≡ self.old.reader }
-        ensures later { K.faults sink.old ≤ K.faults sink.new }
-        ensures ok { (name : List ℕ) (old : Option (List ℕ)) (read : List ℕ)
-            → Holds name old (K.given sink.old) read entry self.old.reader self.old.session
-            → OnOk result (Replays name old (K.given sink.new) read self.new.reader self.new.session) }
-        ensures err { (name : List ℕ) (old : Option (List ℕ)) (read : List ℕ)
-            → Holds name old (K.given sink.old) read entry self.old.reader self.old.session
-            → IfErr result (Fails name old (K.given sink.new) (K.faults sink.old) (K.faults sink.new) read) }
-        ensures cost { steps.new ≡ steps.old }
+        ensures settled { (name : List ℕ) (old : Seen) (read : List ℕ)
+            → Holds name old (seen (K.given sink.old) (K.faults sink.old) steps.old) read entry self.old.reader self.old.session
+            → Settles name old (seen (K.given sink.new) (K.faults sink.new) steps.new) read self.new.reader self.new.session result }
     {
-        deliver(alloc, rt, &mut self.session, sink, &entry, steps)
-    }
-}
-
-// Answers an entry, and writes the answer, if there is one.
-fn deliver<R: Threads + Sync, K: Sink, L: Ledger>(
-    alloc: Global,
-    rt: &R,
-    session: &mut Session,
-    sink: &mut K,
-    entry: &Entry,
-    steps: &mut Steps<L>,
-) -> Result<(), Ending>
-    requires can { CanAnswer session.old entry.now }
-    ensures later { K.faults sink.old ≤ K.faults sink.new }
-    ensures counted { OnOk result (session.new.core.count ≤ session.old.core.count + 2 * weight entry.now) }
-    ensures delivered { (name : List ℕ) (before : List Event) → Stands name session.old before
-        → Delivers name before entry.now (K.given sink.old) (K.given sink.new) (K.faults sink.old) (K.faults sink.new) session.new result }
-    ensures cost { steps.new ≡ steps.old }
-{
-    let written = session.answer(alloc, rt, entry, steps)?;
-    if written.is_empty() {
-        return Ok(());
-    }
-    match sink.write_all(&written) {
-        Ok(()) => Ok(()),
-        Err(_) => Err(Ending::WriteFault),
+        self.session.answer(alloc, rt, &entry, sink, steps)
     }
 }
 
 // Writes the line of an input that is no script, and says how the replay ends.
 fn refuse<K: Sink>(alloc: Global, sink: &mut K, refused: ScriptFault) -> Ending
-    ensures later { K.faults sink.old ≤ K.faults sink.new }
     ensures place { (place : ℕ) → refused ≡ FaultAt place
         → WritesLast (K.given sink.old) (K.given sink.new) (K.faults sink.old) (K.faults sink.new) (fault_line place) NoScript result }
-    ensures memory { refused ≡ NoRoom → (result ≡ OutOfMemory) × (K.given sink.new ≡ K.given sink.old) }
+    ensures memory { refused ≡ NoRoom → (result ≡ OutOfMemory) × (K.given sink.new ≡ K.given sink.old) × (K.faults sink.new ≡ K.faults sink.old) }
 {
     match refused {
         ScriptFault::BadScript { place } => match fault(alloc, place) {
@@ -196,8 +146,7 @@ fn refuse<K: Sink>(alloc: Global, sink: &mut K, refused: ScriptFault) -> Ending
 // Writes the line with which a replay ends.
 fn write_last<K: Sink>(sink: &mut K, line: &[u8], ending: Ending) -> Ending
     requires last { (ending ≡ AllDone) ⊎ (ending ≡ NoScript) }
-    ensures later { K.faults sink.old ≤ K.faults sink.new }
-    ensures written { WritesLast (K.given sink.old) (K.given sink.new) (K.faults sink.old) (K.faults sink.new) line.now ending result }
+    ensures { WritesLast (K.given sink.old) (K.given sink.new) (K.faults sink.old) (K.faults sink.new) line.now ending result }
 {
     match sink.write_all(line) {
         Ok(()) => ending,

@@ -1,12 +1,16 @@
-ghost use Rattle.std.specs.Prelude.{ℕ, ◌≡◌, ◌+◌, ◌*◌, ◌^◌, ◌<◌, ◌≤◌, List, [], length, IfOk, OnOk};
+ghost use Rattle.std.specs.Prelude.{ℕ, ◌≡◌, List, [], true, IfOk};
+ghost use Rattle.link_table.specs.Links.{is_open, state_of};
 ghost use Rattle.sib_script.specs.declared.entry.Entry.TheVariants.{NewLink, Bytes as Delivery, End};
+ghost use Rattle.sib_app.specs.Doing.{seen};
 ghost use Rattle.sib_app.specs.Output.{Event, last_line};
 
 use crate::acting::act;
+use crate::ending::Fault;
 use crate::hearing::{end_of, hear_all, runs};
-use crate::lines::closed;
+use crate::lines::write_closed;
 use m3_terms::{NoMemory, Steps, Text};
 use session_core::{Call, Core};
+use sib_io::Sink;
 use sib_script::Entry;
 use ssap_decode::Decoder;
 use std::alloc::Global;
@@ -23,12 +27,11 @@ pub struct Session {
 }
 
 impl Session {
-    ghost use Rattle.sib_app.specs.Session.{Stands, Answers, CanAnswer, weight};
+    ghost use Rattle.sib_app.specs.Session.{Stands, Delivers, CanAnswer};
 
     /// No link, and a space in which nothing happened.
     pub fn new(alloc: Global, name: Text) -> Session
-        ensures stands { Stands name result [] }
-        ensures count { result.core.count ≡ 0 }
+        ensures { Stands name result [] }
     {
         Session {
             core: Core::new(alloc, name),
@@ -36,24 +39,25 @@ impl Session {
         }
     }
 
-    /// What is written for an entry.
-    pub fn answer<R: Threads + Sync, L: Ledger>(
+    /// Answers an entry.
+    pub fn answer<R: Threads + Sync, K: Sink, L: Ledger>(
         &mut self,
         alloc: Global,
         rt: &R,
         entry: &Entry,
+        sink: &mut K,
         steps: &mut Steps<L>,
-    ) -> Result<Vec<u8>, NoMemory>
-        requires { CanAnswer self.old entry.now }
-        ensures counted { OnOk result (self.new.core.count ≤ self.old.core.count + 2 * weight entry.now) }
-        ensures answers { (name : List ℕ) (before : List Event) → Stands name self.old before
-            → IfOk result (λ written. Answers name before entry.now written.items self.new) }
-        ensures cost { steps.new ≡ steps.old }
+    ) -> Result<(), Fault>
+        requires can { CanAnswer self.old entry.now }
+        ensures { (name : List ℕ) (before : List Event) → Stands name self.old before
+            → Delivers name before entry.now (seen (K.given sink.old) (K.faults sink.old) steps.old) (seen (K.given sink.new) (K.faults sink.new) steps.new) self.new result }
     {
         match entry {
-            Entry::NewLink => self.open(alloc, rt, steps),
-            Entry::Bytes { link, bytes } => self.hear(alloc, rt, *link, bytes.as_slice(), steps),
-            Entry::End { link } => self.end(alloc, rt, *link, steps),
+            Entry::NewLink => self.open(alloc, rt, sink, steps),
+            Entry::Bytes { link, bytes } => {
+                self.hear(alloc, rt, *link, bytes.as_slice(), sink, steps)
+            }
+            Entry::End { link } => self.end(alloc, rt, *link, sink, steps),
         }
     }
 
@@ -69,90 +73,124 @@ impl Session {
     }
 
     // Opens the next link, if one may open.
-    fn open<R: Threads + Sync, L: Ledger>(
+    fn open<R: Threads + Sync, K: Sink, L: Ledger>(
         &mut self,
         alloc: Global,
         rt: &R,
+        sink: &mut K,
         steps: &mut Steps<L>,
-    ) -> Result<Vec<u8>, NoMemory>
-        requires { CanAnswer self.old NewLink }
-        ensures counted { OnOk result (self.new.core.count ≤ self.old.core.count + 2) }
-        ensures answers { (name : List ℕ) (before : List Event) → Stands name self.old before
-            → IfOk result (λ written. Answers name before NewLink written.items self.new) }
-        ensures cost { steps.new ≡ steps.old }
+    ) -> Result<(), Fault>
+        ensures { (name : List ℕ) (before : List Event) → Stands name self.old before
+            → Delivers name before NewLink (seen (K.given sink.old) (K.faults sink.old) steps.old) (seen (K.given sink.new) (K.faults sink.new) steps.new) self.new result }
     {
-        let mut lines = Vec::new(alloc);
-        match act(
-            alloc,
-            rt,
-            &mut self.core,
-            Call::NewLink,
-            None,
-            &mut lines,
-            steps,
-        )? {
+        match act(alloc, rt, &mut self.core, Call::NewLink, None, sink, steps)? {
             Some(link) => {
                 self.decoders.insert(link, Decoder::new(alloc))?;
-                Ok(lines)
+                Ok(())
             }
-            None => Ok(lines),
+            None => Ok(()),
         }
     }
 
     // Takes a delivery.
-    fn hear<R: Threads + Sync, L: Ledger>(
+    fn hear<R: Threads + Sync, K: Sink, L: Ledger>(
         &mut self,
         alloc: Global,
         rt: &R,
         link: u32,
         bytes: &[u8],
+        sink: &mut K,
         steps: &mut Steps<L>,
-    ) -> Result<Vec<u8>, NoMemory>
-        requires { CanAnswer self.old (Delivery link bytes.now) }
-        ensures counted { OnOk result (self.new.core.count ≤ self.old.core.count + 2 * length bytes.now) }
-        ensures answers { (name : List ℕ) (before : List Event) → Stands name self.old before
-            → IfOk result (λ written. Answers name before (Delivery link bytes.now) written.items self.new) }
-        ensures cost { steps.new ≡ steps.old }
+    ) -> Result<(), Fault>
+        requires can { CanAnswer self.old (Delivery link bytes.now) }
+        ensures { (name : List ℕ) (before : List Event) → Stands name self.old before
+            → Delivers name before (Delivery link bytes.now) (seen (K.given sink.old) (K.faults sink.old) steps.old) (seen (K.given sink.new) (K.faults sink.new) steps.new) self.new result }
     {
-        let Some(mut decoder) = self.decoders.remove(&link) else {
-            return closed(alloc, link);
-        };
-        let lines = hear_all(alloc, rt, link, &mut self.core, &mut decoder, bytes, steps)?;
         if runs(&self.core, link) {
-            self.decoders.insert(link, decoder)?;
-            return Ok(lines);
+            self.hear_open(alloc, rt, link, bytes, sink, steps)
+        } else {
+            write_closed(alloc, sink, link)
         }
-        Ok(lines)
     }
 
-    // Ends the input of a link.
-    fn end<R: Threads + Sync, L: Ledger>(
+    // Takes a delivery on an open link.
+    fn hear_open<R: Threads + Sync, K: Sink, L: Ledger>(
         &mut self,
         alloc: Global,
         rt: &R,
         link: u32,
+        bytes: &[u8],
+        sink: &mut K,
         steps: &mut Steps<L>,
-    ) -> Result<Vec<u8>, NoMemory>
-        requires { CanAnswer self.old (End link) }
-        ensures counted { OnOk result (self.new.core.count ≤ self.old.core.count + 2) }
-        ensures answers { (name : List ℕ) (before : List Event) → Stands name self.old before
-            → IfOk result (λ written. Answers name before (End link) written.items self.new) }
-        ensures cost { steps.new ≡ steps.old }
+    ) -> Result<(), Fault>
+        requires can { CanAnswer self.old (Delivery link bytes.now) }
+        requires runs { is_open (state_of self.old.core.space.links link) ≡ true }
+        ensures { (name : List ℕ) (before : List Event) → Stands name self.old before
+            → Delivers name before (Delivery link bytes.now) (seen (K.given sink.old) (K.faults sink.old) steps.old) (seen (K.given sink.new) (K.faults sink.new) steps.new) self.new result }
     {
-        let Some(decoder) = self.decoders.remove(&link) else {
-            return closed(alloc, link);
-        };
+        let mut decoder = self.decoders.remove(&link).unwrap();
+        hear_all(
+            alloc,
+            rt,
+            link,
+            &mut self.core,
+            &mut decoder,
+            bytes,
+            sink,
+            steps,
+        )?;
+        if runs(&self.core, link) {
+            self.decoders.insert(link, decoder)?;
+            return Ok(());
+        }
+        Ok(())
+    }
+
+    // Ends the input of a link.
+    fn end<R: Threads + Sync, K: Sink, L: Ledger>(
+        &mut self,
+        alloc: Global,
+        rt: &R,
+        link: u32,
+        sink: &mut K,
+        steps: &mut Steps<L>,
+    ) -> Result<(), Fault>
+        requires can { CanAnswer self.old (End link) }
+        ensures { (name : List ℕ) (before : List Event) → Stands name self.old before
+            → Delivers name before (End link) (seen (K.given sink.old) (K.faults sink.old) steps.old) (seen (K.given sink.new) (K.faults sink.new) steps.new) self.new result }
+    {
+        if runs(&self.core, link) {
+            self.end_open(alloc, rt, link, sink, steps)
+        } else {
+            write_closed(alloc, sink, link)
+        }
+    }
+
+    // Ends the input of an open link.
+    fn end_open<R: Threads + Sync, K: Sink, L: Ledger>(
+        &mut self,
+        alloc: Global,
+        rt: &R,
+        link: u32,
+        sink: &mut K,
+        steps: &mut Steps<L>,
+    ) -> Result<(), Fault>
+        requires can { CanAnswer self.old (End link) }
+        requires runs { is_open (state_of self.old.core.space.links link) ≡ true }
+        ensures { (name : List ℕ) (before : List Event) → Stands name self.old before
+            → Delivers name before (End link) (seen (K.given sink.old) (K.faults sink.old) steps.old) (seen (K.given sink.new) (K.faults sink.new) steps.new) self.new result }
+    {
+        let decoder = self.decoders.remove(&link).unwrap();
         let reason = end_of(link, decoder)?;
-        let mut lines = Vec::new(alloc);
         act(
             alloc,
             rt,
             &mut self.core,
             Call::End(link),
             reason,
-            &mut lines,
+            sink,
             steps,
         )?;
-        Ok(lines)
+        Ok(())
     }
 }

@@ -1,8 +1,13 @@
-use Rattle.std.proofs.Common.{◌≡◌, ◌∙◌, ap, sym, refl, subst, arith, true, ◌==◌, ◌∷◌, ℕ, ◌+◌, ◌<◌, ◌≤◌, ◌++◌, List, [], length, take, Option, Some, IfSome, append_assoc, append-nil, length-append, take-append-drop}
+use Rattle.std.proofs.Common.{◌≡◌, ◌∙◌, ap, sym, refl, subst, arith, true, ◌==◌, ◌∷◌, ℕ, ◌+◌, ◌++◌, List, [], length, take, Option, Some, append_assoc, append-nil, length-append, take-append-drop}
 use Rattle.std.proofs.lemmas.Bool.Decides.{nat_tests}
-use Rattle.sib_app.specs.Output.{Event, space_after}
+use Rattle.std.proofs.lemmas.Result.{err_from_is_err_and}
+use Rattle.session_core.specs.Space.{Space}
+use Rattle.ssap_decode.specs.Decoding.{Decoding}
+use Rattle.sib_app.specs.Doing.{Seen, seen, Does}
+use Rattle.sib_app.specs.Output.{Event, space_after, answers_after, rows_after}
 use Rattle.sib_app.specs.Session.{Follows, Hearing, HearsSome}
-use Rattle.sib_app.proofs.DeliveryLemmas.{hearing_starts, hears_all_on, hears_all_stops}
+use Rattle.sib_app.proofs.DoingLemmas.{does_nothing}
+use Rattle.sib_app.proofs.DeliveryLemmas.{hearing_starts, hears_all_on, hears_all_stops, hears_all_fault}
 use Rattle.sib_app.proofs.hearing.hear_all.Goals as goal
 
 -- no bytes are left where their length is none
@@ -13,20 +18,18 @@ empty (b ∷ bytes) t = absurd (grind (arith, nat_tests))
 -- nothing was taken yet
 pub loop-rest-init : goal.loop-rest-init
 loop-rest-init g c = record {
-  steps = refl;
   taken = refl;
   following = c.requires.following;
   drained = c.requires.drained;
-  counted = omega arith;
   front = (
     [],
     refl,
     λ name before heard came is f.
-        ([], hearing_starts name before c.args.link came heard c.args.core.now.space c.args.decoder.now c.new-lines.result.items f is c.requires.runs c.new-lines.ensures.items),
+        ([], hearing_starts name before c.args.link came heard c.args.core.now.space c.args.decoder.now f is c.requires.runs, does_nothing _),
   );
 }
 
--- a longer front was taken and answered
+-- a longer prefix was taken and answered
 pub loop-rest-preserved : goal.loop-rest-preserved
 loop-rest-preserved g c =
     let (front, whole, on) = c.loop-rest.invariant.front in
@@ -34,53 +37,63 @@ loop-rest-preserved g c =
     let count = c.in-Some.count in
     let longer = front ++ take count rest in
     let link = c.args.link in
-    let core = c.hear_some.new.core in
-    let decoder = c.hear_some.new.decoder in
+    let space : Space = c.hear_some.new.core.space in
+    let decoder : Decoding = c.hear_some.new.decoder in
+    let old : Seen = seen (g.K.Sink.given c.args.sink.now) (g.K.Sink.faults c.args.sink.now) c.args.steps.now in
+    let new : Seen = seen (g.K.Sink.given c.hear_some.new.sink) (g.K.Sink.faults c.hear_some.new.sink) c.hear_some.new.steps in
     let e = c.in_ok-count.ensures in
     let same : longer ++ c.split_at.result.1.now ≡ c.args.bytes.now =
     append_assoc front (take count rest) c.split_at.result.1.now ∙ ap (λ l. front ++ (take count rest ++ l)) c.split_at.ensures.back
     ∙ ap (λ l. front ++ l) (take-append-drop count rest) ∙ whole
     in
     let step : (name : List ℕ) (before : List Event) (heard : List ℕ) (came : ℕ) → c.args.core.now.space ≡ space_after name before → Follows c.args.decoder.now heard came
-    → (events : List Event) × Hearing name before link came (heard ++ longer) events core.space decoder c.hear_some.new.lines.items =
+    → (events : List Event) × Hearing name before link came (heard ++ longer) events space decoder × Does old new (answers_after name before events) (rows_after name before events) =
     λ name before heard came is f.
-    let (events, h) = on name before heard came is f in
-    let some : HearsSome name before link came (heard ++ front) events rest (Some count) core.space decoder c.hear_some.new.lines.items =
-    subst (λ (o : Option ℕ). HearsSome name before link came (heard ++ front) events rest o core.space decoder c.hear_some.new.lines.items) c.in-Some.is
-    (e.heard name before (heard ++ front) came events h)
+    let (events, h, p) = on name before heard came is f in
+    let some : HearsSome name before link came (heard ++ front) events rest old new space decoder (Some count) =
+    subst (λ (o : Option ℕ). HearsSome name before link came (heard ++ front) events rest old new space decoder o) c.in-Some.is
+    (e.heard name before (heard ++ front) came events old h p)
     in (
       events ++ some.0,
-      subst (λ (l : List ℕ). Hearing name before link came l (events ++ some.0) core.space decoder c.hear_some.new.lines.items) (append_assoc heard front (take count rest)) some.1,
+      subst (λ (l : List ℕ). Hearing name before link came l (events ++ some.0) space decoder) (append_assoc heard front (take count rest)) some.1,
+      some.2,
     )
     in
     let (heard, came, f) = c.requires.following in
     let (name, before, is) = c.requires.behind in
-    let (events, h) = step name before heard came is f in
-    let (few, within) : (0 < count) × (count ≤ length rest) = subst (λ (o : Option ℕ). IfSome o (λ n. (0 < n) × (n ≤ length rest))) c.in-Some.is e.within in
+    let (events, h, p) = step name before heard came is f in
     record {
-      steps = e.cost ∙ c.loop-rest.invariant.steps;
       taken = omega (arith, h.follows.stands.taken, f.stands.taken, ap length same, length-append longer c.split_at.result.1.now, length-append heard longer);
       following = (heard ++ longer, came + length events, h.follows);
       drained = e.drained;
-      counted = omega (arith, e.counted, c.loop-rest.invariant.counted, c.split_at.ensures.back_len, few);
       front = (longer, same, step);
     }
 
--- the link stops
-pub returns-in-None-clause-heard : goal.returns-in-None-clause-heard
-returns-in-None-clause-heard g c name before heard came is f =
+-- a fault came
+pub returns-in_err-count : goal.returns-in_err-count
+returns-in_err-count g c name before heard came is f =
     let (front, whole, on) = c.loop-rest.invariant.front in
-    let (events, h) = on name before heard came is f in
-    let core = c.hear_some.new.core in
-    hears_all_stops name before c.args.link came heard front c.loop-rest.rest.now c.args.bytes.now events core.space c.hear_some.new.decoder c.hear_some.new.lines.items
-    (subst (λ (o : Option ℕ). HearsSome name before c.args.link came (heard ++ front) events c.loop-rest.rest.now o core.space c.hear_some.new.decoder c.hear_some.new.lines.items) c.in-None.is
-    (c.in_ok-count.ensures.heard name before (heard ++ front) came events h)) whole
+    let (events, h, done) = on name before heard came is f in
+    let p = err_from_is_err_and c.from_residual.result c.from_residual.ensures.1 in
+    rw (p.1, p.2) (hears_all_fault name before c.args.link came heard front c.loop-rest.rest.now c.args.bytes.now _ _ _ (c.in_err-count.ensures.heard name before (heard ++ front) came events _ h done) whole)
+
+-- the link stops
+pub returns-in-None : goal.returns-in-None
+returns-in-None g c name before heard came is f =
+    let (front, whole, on) = c.loop-rest.invariant.front in
+    let (events, h, done) = on name before heard came is f in
+    let space : Space = c.hear_some.new.core.space in
+    let old : Seen = seen (g.K.Sink.given c.args.sink.now) (g.K.Sink.faults c.args.sink.now) c.args.steps.now in
+    let new : Seen = seen (g.K.Sink.given c.hear_some.new.sink) (g.K.Sink.faults c.hear_some.new.sink) c.hear_some.new.steps in
+    hears_all_stops name before c.args.link came heard front c.loop-rest.rest.now c.args.bytes.now events old new space c.hear_some.new.decoder
+    (subst (λ (o : Option ℕ). HearsSome name before c.args.link came (heard ++ front) events c.loop-rest.rest.now old new space c.hear_some.new.decoder o) c.in-None.is
+    (c.in_ok-count.ensures.heard name before (heard ++ front) came events old h done)) whole
 
 -- the link goes on behind all bytes
-pub returns-clause-heard : goal.returns-clause-heard
-returns-clause-heard g c name before heard came is f =
+pub returns : goal.returns
+returns g c name before heard came is f =
     let (front, whole, on) = c.loop-rest.invariant.front in
-    let (events, h) = on name before heard came is f in
+    let (events, h, done) = on name before heard came is f in
     let none : c.loop-rest.rest.now ≡ [] = empty c.loop-rest.rest.now c.loop-rest-test.ensures in
-    hears_all_on name before c.args.link came heard front c.args.bytes.now events c.loop-rest.core.space c.loop-rest.decoder c.loop-rest.lines.items h
+    hears_all_on name before c.args.link came heard front c.args.bytes.now events _ _ c.loop-rest.core.space c.loop-rest.decoder h done
     (sym (append-nil front) ∙ ap (λ l. front ++ l) (sym none) ∙ whole)
