@@ -91,6 +91,7 @@ impl Interner {
         ensures terms { self.new.terms ≡ self.old.terms }
         ensures limit { self.new.limit ≡ self.old.limit }
         ensures draft { IsDraftOf self.new draft.now }
+        ensures kept_room { self.old.room ≤ self.new.room }
         ensures room { OnOk result (length draft.now ≤ self.new.room) }
     {
         self.terms.reserve(draft.terms.len())?;
