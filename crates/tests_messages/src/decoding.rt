@@ -28,7 +28,7 @@ const STREAMS: [(&[u8], &[u64], Option<Stop>); 9] = [
     (
         b"<SSAP_message><node_id>k</node_id><node_id>",
         &[],
-        Some(Stop::Syntax { place: 36 }),
+        Some(Stop::Syntax { place: 35 }),
     ),
 ];
 
