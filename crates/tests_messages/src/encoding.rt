@@ -26,7 +26,7 @@ fn given(alloc: Global, envelope: &Envelope, room: usize, call: usize) -> Result
     failing.push(call)?;
     let mut sink = MemSink::new(alloc, room, failing)?;
     let result = write(envelope, &mut sink);
-    let mut given = Vec::from_slice(alloc, sink.bytes().as_slice())?;
+    let mut given = Vec::from_slice(alloc, sink.bytes())?;
     if result.is_err() {
         given.push(b'!')?;
     }

@@ -60,28 +60,35 @@ fn number<T: TermTable>(alloc: Global, table: &T, text: &[u8]) -> Result<Option<
     }
 }
 
-// Keeps `aa`, and then `bb` and `cc`, whose numbers the draft tells before.
-fn grow(alloc: Global, mut interner: Interner) -> Result<[Option<u32>; 6], Fail> {
+type Numbers = [Option<u32>; 3];
+
+// The numbers of `aa`, `cc` and `dd` in a table.
+fn numbers<T: TermTable>(alloc: Global, table: &T) -> Result<Numbers, Fail> {
+    let aa = number(alloc, table, b"aa")?;
+    let cc = number(alloc, table, b"cc")?;
+    let dd = number(alloc, table, b"dd")?;
+    Ok([aa, cc, dd])
+}
+
+// Keeps `aa`, then `bb` and `cc`. Gives the numbers before, those that the draft tells, and those that the terms have then.
+fn grow(alloc: Global, mut interner: Interner) -> Result<[Numbers; 3], Fail> {
     keep(&mut interner, literals(alloc, &[b"aa"])?)?;
     let draft = interner.draft(literals(alloc, &[b"bb", b"aa", b"cc"])?)?;
     interner.reserve_for(&draft)?;
-    let both = draft.with(&interner);
-    let kept = number(alloc, &both, b"aa")?;
-    let drafted = number(alloc, &both, b"cc")?;
-    let outside = number(alloc, &both, b"dd")?;
-    let before = number(alloc, &interner, b"cc")?;
+    let before = numbers(alloc, &interner)?;
+    let drafted = numbers(alloc, &draft.with(&interner))?;
     interner.commit(draft);
-    let first = number(alloc, &interner, b"aa")?;
-    let last = number(alloc, &interner, b"cc")?;
-    Ok([kept, drafted, outside, before, first, last])
+    Ok([before, drafted, numbers(alloc, &interner)?])
 }
 
 #[test]
 fn a_draft_tells_the_numbers_that_its_terms_get(rt: HostRuntime) -> Result<(), Fail> {
     let alloc = rt.alloc();
-    let numbers = [Some(0), Some(2), None, None, Some(0), Some(2)];
-    assert_eq!(rt; grow(alloc, Interner::new(alloc, 1_000))?, numbers);
+    let before = [Some(0), None, None];
+    let then = [Some(0), Some(2), None];
+    let wanted = [before, then, then];
+    assert_eq!(rt; grow(alloc, Interner::new(alloc, 1_000))?, wanted);
     let keys = TermKeys { key0: 7, key1: 9 };
-    assert_eq!(rt; grow(alloc, Interner::keyed(alloc, 1_000, keys))?, numbers);
+    assert_eq!(rt; grow(alloc, Interner::keyed(alloc, 1_000, keys))?, wanted);
     Ok(())
 }
