@@ -1,18 +1,15 @@
 -- The verdict on a request, in two steps: the ranks before the limits, and then these.
-use Rattle.std.proofs.Common.{◌≡◌, ℕ, Bool, true, false, ◌&&◌, not, List, [], ◌∷◌, ◌++◌, Option, Some, None, refl, sym, ap, ◌∙◌}
+use Rattle.std.proofs.Common.{◌≡◌, ℕ, Bool, true, false, not, List, [], ◌∷◌, ◌++◌, Option, Some, None, refl, sym, ap, ◌∙◌}
 use Rattle.std.proofs.lemmas.Option.{same_Some}
 use Rattle.std.specs.Option.{option_or, unwrap_or}
-use Rattle.m3_terms.specs.declared.pattern.Pattern.{Pattern}
 use Rattle.ssap_items.specs.declared.heads.Heads.{Heads}
-use Rattle.ssap_items.specs.declared.heads.Transaction.{Transaction}
 use Rattle.ssap_shape.specs.declared.status.Status.{Status}
 use Rattle.ssap_shape.specs.declared.status.Status.TheVariants.{Success, AccessDenied, NotImplemented, Request as BadRequest}
 use Rattle.ssap_shape.specs.declared.request.Ask.{Ask}
-use Rattle.ssap_shape.specs.declared.request.Ask.TheVariants.{Update}
 use Rattle.ssap_shape.specs.declared.request.Request.{Request}
 use Rattle.ssap_shape.specs.declared.request.Arrived.TheVariants as arrived
 use Rattle.session_core.specs.Space.{Space}
-use Rattle.session_core.specs.Requests.{is_for, is_stranger, is_built, is_none_of, is_removal, is_unfit, is_success, refuse, Rank, elsewhere, denied, unbuilt, unfit, over, early_ranks, first_of, verdict, confirm}
+use Rattle.session_core.specs.Requests.{is_for, is_stranger, is_built, is_unfit, is_success, refuse, Rank, elsewhere, denied, unbuilt, unfit, over, early_ranks, first_of, verdict, confirm}
 use Rattle.session_core.specs.Steps.{queue, delivered}
 use Rattle.session_core.specs.Ranks.{decided, asking, passed}
 
@@ -57,7 +54,7 @@ early_refuses : (space : Space) (request : Request) → Refuses (first_of early_
 early_refuses space request =
     or_refuses (elsewhere space request) _ (refuse_refuses (not (is_for space request.heads)) BadRequest refl)
     (or_refuses (denied space request) _ (refuse_refuses (is_stranger space request.heads request.ask) AccessDenied refl)
-    (or_refuses (unbuilt space request) _ (refuse_refuses (not (is_built request.heads.transaction request.ask)) NotImplemented refl)
+    (or_refuses (unbuilt space request) _ (refuse_refuses (not (is_built request.ask)) NotImplemented refl)
     (or_refuses (unfit space request) _ (refuse_refuses (is_unfit request.ask) BadRequest refl) none_refuses)))
 
 -- a request that is refused changes nothing, and its confirm tells the status alone
@@ -93,16 +90,17 @@ passes_refuse true status h = refl
 passes_refuse false status h = cc
 
 -- what passes the ranks before the limits is built
-pub passes_built : (space : Space) (request : Request) → first_of early_ranks space request ≡ None → is_built request.heads.transaction request.ask ≡ true
+pub passes_built : (space : Space) (request : Request) → first_of early_ranks space request ≡ None → is_built request.ask ≡ true
 passes_built space request h =
     let later = none_later (denied space request) _ (none_later (elsewhere space request) _ h) in
-    passes_refuse (is_built request.heads.transaction request.ask) NotImplemented (none_first (unbuilt space request) _ later)
+    passes_refuse (is_built request.ask) NotImplemented (none_first (unbuilt space request) _ later)
 
--- no patterns are no patterns
-none_of : (patterns : List Pattern) (other : Bool) → (is_none_of patterns && other) ≡ true → patterns ≡ []
-none_of [] other h = refl
-none_of (pattern ∷ patterns) other h = cc
+refuse_passes : (refuses : Bool) (status : Status) → refuse refuses status ≡ None → refuses ≡ false
+refuse_passes true status h = cc
+refuse_passes false status h = refl
 
--- and an update that is built removes nothing
-pub built_inserts : (kind : Transaction) (remove insert : List Pattern) (wanted : Bool) → is_built kind (Update remove insert wanted) ≡ true → remove ≡ []
-built_inserts kind remove insert wanted h = none_of remove (not (is_removal kind insert)) h
+-- and can be done
+pub passes_fit : (space : Space) (request : Request) → first_of early_ranks space request ≡ None → is_unfit request.ask ≡ false
+passes_fit space request h =
+    let later = none_later (unbuilt space request) _ (none_later (denied space request) _ (none_later (elsewhere space request) _ h)) in
+    refuse_passes (is_unfit request.ask) BadRequest (none_first (unfit space request) _ later)

@@ -2,20 +2,26 @@
 use Rattle.std.proofs.Common.{◌≡◌, ◌<◌, Bool, true, false, ◌&&◌, ◌||◌, List, [], ◌∷◌, Contains, refl, sym, subst, inl, inr, arith}
 use Rattle.std.specs.Bool.{Decides}
 use Rattle.std.specs.Cmp.{first_so, second_so}
+use Rattle.std.specs.declared.cmp.Ordering.TheVariants.{Equal}
 use mathlib.Core.Bool.{true≢false}
 use mathlib.Core.Logic.{⊎_elim}
 use Rattle.m3_terms.specs.InsertedLaws.{cons_cases, head_in, tail_in}
-use Rattle.m3_terms.specs.OrderLaws.{term_exact, triple_cmp_total}
+use Rattle.m3_terms.specs.Order.{triple_cmp}
+use Rattle.m3_terms.specs.OrderLaws.{term_exact, triple_cmp_total, triple_cmp_exact}
 use Rattle.m3_terms.specs.Pattern.{Admits, Fits}
 use Rattle.m3_terms.specs.declared.term.Term.{Term}
 use Rattle.m3_terms.specs.declared.pattern.Slot.{Slot}
 use Rattle.m3_terms.specs.declared.pattern.Slot.TheVariants.{Any, Is}
 use Rattle.m3_terms.specs.declared.pattern.Pattern.{Pattern}
 use Rattle.m3_terms.specs.declared.triple.Triple.{Triple}
-use Rattle.session_core.specs.Graph.{admits, fits, fits_any, triples_of}
+use Rattle.triple_index.specs.Graphs.{fits_one}
+use Rattle.triple_index.specs.GraphLaws.{after_ordered, after_has}
+use Rattle.session_core.specs.Graph.{admits, fits, triples_of}
 use Rattle.session_core.specs.Laws.{UpdatesAreExact, UpdatesKeepOrder}
-use Rattle.session_core.proofs.Graphs.{triple_one, update_ordered}
-use Rattle.session_core.proofs.Updates.{after_has}
+
+-- two triples that compare alike are one
+pub triple_one : (s t : Triple) → triple_cmp s t ≡ Equal → s ≡ t
+triple_one s t = (triple_cmp_exact s t).0
 
 admits_decides : (slot : Slot) (term : Term) → Decides (admits slot term) (Admits slot term)
 admits_decides Any term = (λ h. tt, λ a. refl)
@@ -56,25 +62,25 @@ neither_second : (a b : Bool) → (a || b) ≡ false → b ≡ false
 neither_second true b h = absurd (true≢false h)
 neither_second false b h = h
 
-none_fits : (patterns : List Pattern) (triple : Triple) → FitsNone patterns triple → fits_any patterns triple ≡ false
+none_fits : (patterns : List Pattern) (triple : Triple) → FitsNone patterns triple → fits_one fits patterns triple ≡ false
 none_fits [] triple n = refl
 none_fits (pattern ∷ patterns) triple n =
-    neither (fits pattern triple) (fits_any patterns triple) (λ h. n pattern (head_in pattern patterns) ((fits_decides pattern triple).0 h))
+    neither (fits pattern triple) (fits_one fits patterns triple) (λ h. n pattern (head_in pattern patterns) ((fits_decides pattern triple).0 h))
     (none_fits patterns triple (λ other c. n other (tail_in pattern patterns other c)))
 
-none_fits_of : (patterns : List Pattern) (triple : Triple) → fits_any patterns triple ≡ false → FitsNone patterns triple
+none_fits_of : (patterns : List Pattern) (triple : Triple) → fits_one fits patterns triple ≡ false → FitsNone patterns triple
 none_fits_of [] triple h pattern c f = let below : c.0 < 0 = c.1 in absurd (omega arith)
 none_fits_of (first ∷ patterns) triple h pattern c f = ⊎_elim
-    (λ e. neither_first (fits first triple) (fits_any patterns triple) h ((fits_decides first triple).1 (subst (λ p. Fits p triple) (sym e) f)))
-    (λ later. none_fits_of patterns triple (neither_second (fits first triple) (fits_any patterns triple) h) pattern later f)
+    (λ e. neither_first (fits first triple) (fits_one fits patterns triple) h ((fits_decides first triple).1 (subst (λ p. Fits p triple) (sym e) f)))
+    (λ later. none_fits_of patterns triple (neither_second (fits first triple) (fits_one fits patterns triple) h) pattern later f)
     (cons_cases first patterns pattern c)
 
 pub updates_are_exact : UpdatesAreExact
 updates_are_exact graph remove insert triple =
-    let has = after_has triple_cmp_total triple_one (fits_any remove) graph (triples_of insert) triple in (
-      λ c. ⊎_elim inl (λ (kept : Contains graph triple × (fits_any remove triple ≡ false)). inr (kept.0, none_fits_of remove triple kept.1)) (has.0 c),
-      λ s. has.1 (⊎_elim inl (λ (kept : Contains graph triple × FitsNone remove triple). inr (kept.0, none_fits remove triple kept.1)) s),
+    let has = after_has triple_cmp_total triple_one fits graph remove (triples_of insert) triple in (
+      λ c. ⊎_elim (λ (kept : Contains graph triple × (fits_one fits remove triple ≡ false)). inr (kept.0, none_fits_of remove triple kept.1)) inl (has.0 c),
+      λ s. has.1 (⊎_elim inr (λ (kept : Contains graph triple × FitsNone remove triple). inl (kept.0, none_fits remove triple kept.1)) s),
     )
 
 pub updates_keep_order : UpdatesKeepOrder
-updates_keep_order = update_ordered
+updates_keep_order graph remove insert = after_ordered triple_cmp_total triple_one fits graph remove (triples_of insert)

@@ -22,7 +22,8 @@ use Rattle.session_core.specs.Runs.{run_from, is_update, accepts, is_accepted, u
 use Rattle.session_core.specs.Laws.{graph_by_ask, graph_by_arrived, graph_by_call, graph_by, NameStays, NodesInOrder, TriplesInOrder, UpdatesCounted, GraphOfUpdates}
 use Rattle.session_core.specs.declared.call.Call.{Call}
 use Rattle.session_core.specs.declared.call.Call.TheVariants as call
-use Rattle.session_core.proofs.Graphs.{nil_ordered, update_ordered}
+use Rattle.session_core.proofs.Fitting.{updates_keep_order}
+use Rattle.session_core.proofs.NumbersCountOnce.{nil_ordered}
 use Rattle.session_core.proofs.Members.{text_one, none_joined}
 
 -- the updates grew by so many, the graph is this, the name stays, and the nodes stay in order
@@ -170,7 +171,7 @@ run_grows space (one ∷ calls) =
 ask_ordered : (graph : List Triple) (ask : Ask) → IsStrictlySortedBy triple_cmp graph → IsStrictlySortedBy triple_cmp (graph_by_ask graph ask)
 ask_ordered graph Join s = s
 ask_ordered graph Leave s = s
-ask_ordered graph (Update remove insert confirm) s = update_ordered graph remove insert s
+ask_ordered graph (Update remove insert confirm) s = updates_keep_order graph remove insert s
 ask_ordered graph (Query wish) s = s
 ask_ordered graph (Subscribe wish) s = s
 ask_ordered graph (Unsubscribe text) s = s
@@ -202,7 +203,7 @@ graph_of_updates name history = (run_grows (empty_space name) history).graph
 
 pub triples_in_order : TriplesInOrder
 triples_in_order name history =
-    subst (IsStrictlySortedBy triple_cmp) (sym (graph_of_updates name history)) (calls_ordered [] (updates name history) nil_ordered)
+    subst (IsStrictlySortedBy triple_cmp) (sym (graph_of_updates name history)) (calls_ordered [] (updates name history) (nil_ordered triple_cmp))
 
 pub updates_counted : UpdatesCounted
 updates_counted name history = (run_grows (empty_space name) history).updates ∙ omega arith

@@ -1,6 +1,9 @@
-pub mod Updates
-pub mod Graphs
+pub mod PatternsNamed
+pub mod NumbersMeanTerms
+pub mod NumbersCountOnce
+pub mod NumbersFit
 pub mod Fitting
+pub mod NumbersFollow
 pub mod Standing
 pub mod Changes
 pub mod Told

@@ -1,5 +1,6 @@
 -- Worked examples: a node k asks the space X on its first link.
-use Rattle.std.specs.Prelude.{◌≡◌, Bool, true, false, [], ◌∷◌, codes, Some, refl, replicate}
+use Rattle.std.specs.Prelude.{◌≡◌, Bool, true, false, List, [], ◌∷◌, codes, Some, refl, replicate}
+use Rattle.m3_terms.specs.declared.term.Term.{Term}
 use Rattle.m3_terms.specs.declared.term.Term.TheVariants.{Uri, Literal}
 use Rattle.m3_terms.specs.declared.triple.Triple.{Triple}
 use Rattle.m3_terms.specs.declared.pattern.Slot.{Slot}
@@ -40,6 +41,10 @@ asks kind what = record { heads = heads kind; ask = what }
 abbrev lamp : Triple
 lamp = record { subject = Uri (codes "lamp"); predicate = Uri (codes "state"); object = Literal (codes "on") }
 
+-- its terms
+abbrev lamp_terms : List Term
+lamp_terms = Uri (codes "lamp") ∷ Uri (codes "state") ∷ Literal (codes "on") ∷ []
+
 -- the state of the lamp is this
 abbrev lamp_is : Slot → Pattern
 lamp_is slot = record { subject = Is (Uri (codes "lamp")); predicate = Is (Uri (codes "state")); object = slot }
@@ -74,12 +79,17 @@ example_denied = refl
 
 -- a node that joined and inserts a triple twice: two updates, one triple
 example_twice : done (done (done space join) (insert on true)) (insert on true)
-    ≡ record space { joined = codes "k" ∷ []; graph = lamp ∷ []; updates = 2 }
+    ≡ record space { joined = codes "k" ∷ []; graph = lamp ∷ []; named = lamp_terms; updates = 2 }
 example_twice = refl
+
+-- a removal of the lamp's state takes it out of the graph, and its terms stay named
+example_removed : done (done (done space join) (insert on true)) (asks transaction.TheVariants.Remove (ask.Update (lamp_is Any ∷ []) [] true))
+    ≡ record space { joined = codes "k" ∷ []; named = lamp_terms; updates = 2 }
+example_removed = refl
 
 -- where no confirm of success is wanted nothing waits, and no link is told of
 example_silent : step (done space join) (Deliver 1 (arrived.Request (insert on false)))
-    ≡ record { space = record space { joined = codes "k" ∷ []; graph = lamp ∷ []; updates = 1 }; reply = Done [] }
+    ≡ record { space = record space { joined = codes "k" ∷ []; graph = lamp ∷ []; named = lamp_terms; updates = 1 }; reply = Done [] }
 example_silent = refl
 
 -- who left is a stranger

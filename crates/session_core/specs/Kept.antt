@@ -1,7 +1,7 @@
 -- What holds of a space whenever a call is done.
 use Rattle.std.specs.Prelude.{◌≡◌, ◌≢◌, ℕ, List, Some}
 use Rattle.std.specs.List.Sorted.{IsStrictlySortedBy}
-use Rattle.m3_terms.specs.Order.{text_cmp, triple_cmp}
+use Rattle.m3_terms.specs.Order.{text_cmp}
 use Rattle.link_table.specs.Links.{Link, link_at}
 use Rattle.link_table.specs.declared.state.LinkState.TheVariants.{Never}
 use Rattle.session_core.specs.Space.{Space}
@@ -10,8 +10,7 @@ use Rattle.session_core.specs.Space.{Space}
 abbrev pub AllOpened : List Link → Type 0
 AllOpened links = (number : ℕ) (link : Link) → link_at links number ≡ Some link → link.state ≢ Never
 
--- nodes and triples are in order, each once, and each link was opened
+-- nodes are in order, each once, and each link was opened
 pub record IsKept (space : Space) : Type 0 where
   pub joined : IsStrictlySortedBy text_cmp space.joined
-  pub graph : IsStrictlySortedBy triple_cmp space.graph
   pub opened : AllOpened space.links

@@ -1,7 +1,8 @@
 pub mod Graph
+pub mod Numbers
 pub mod Space
-pub mod Fresh
 pub mod Requests
+pub mod Prepared
 pub mod Rings
 pub mod Steps
 pub mod Ranks

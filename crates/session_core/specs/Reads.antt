@@ -8,21 +8,22 @@ use Rattle.ssap_shape.specs.declared.request.Ask.TheVariants.{Join, Leave, Updat
 use Rattle.ssap_shape.specs.declared.request.Arrived.{Arrived}
 use Rattle.ssap_shape.specs.declared.request.Arrived.TheVariants.{Request, Wrong, NotRequest}
 use Rattle.session_core.specs.Space.{Space}
-use Rattle.session_core.specs.Graph.{rows_of}
+use Rattle.session_core.specs.Graph.{fits}
+use Rattle.triple_index.specs.Graphs.{count_fitting}
 use Rattle.session_core.specs.Steps.{step}
 use Rattle.session_core.specs.declared.call.Call.{Call}
 use Rattle.session_core.specs.declared.call.Call.TheVariants.{NewLink, Deliver, End, Lost, Take}
 
 -- for a query: the triples that fit a template, counted for each template
 abbrev pub query_cost : List Triple → Wish → ℕ
-query_cost graph (Templates templates) = rows_of graph templates
+query_cost graph (Templates templates) = count_fitting fits graph templates
 query_cost graph (Sparql text) = 0
 
 -- for what is asked for: an update may read the triples that fit a pattern that it removes, counted for each pattern
 abbrev pub ask_cost : List Triple → Ask → ℕ
 ask_cost graph Join = 0
 ask_cost graph Leave = 0
-ask_cost graph (Update remove insert confirm) = rows_of graph remove
+ask_cost graph (Update remove insert confirm) = count_fitting fits graph remove
 ask_cost graph (Query wish) = query_cost graph wish
 ask_cost graph (Subscribe wish) = 0
 ask_cost graph (Unsubscribe text) = 0

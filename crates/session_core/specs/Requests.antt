@@ -1,13 +1,14 @@
 -- What a request comes to: the first rank that refuses it decides, and else it is done.
-use Rattle.std.specs.Prelude.{ℕ, Bool, true, false, ◌&&◌, not, nat_le, nat_lt, if◌then◌else◌, List, [], ◌∷◌, ◌++◌, length, is_none, Option, Some, None}
+use Rattle.std.specs.Prelude.{ℕ, Bool, true, false, ◌&&◌, ◌||◌, not, nat_le, nat_lt, if◌then◌else◌, List, [], ◌∷◌, ◌++◌, length, is_none, Option, Some, None}
 use Rattle.std.specs.List.{list_any}
 use Rattle.std.specs.Option.{option_or, unwrap_or}
 use Rattle.std.specs.Str.{bytes_eq}
 use Rattle.m3_terms.specs.Pattern.{triple_of}
 use Rattle.m3_terms.specs.declared.pattern.Pattern.{Pattern}
+use Rattle.m3_terms.specs.declared.term.Term.{Term}
+use Rattle.m3_terms.specs.declared.triple.Triple.{Triple}
+use Rattle.m3_intern.specs.Interned.{bytes_of_terms}
 use Rattle.ssap_items.specs.Canon.{canonical}
-use Rattle.ssap_items.specs.declared.heads.Transaction.{Transaction}
-use Rattle.ssap_items.specs.declared.heads.Transaction as transaction
 use Rattle.ssap_items.specs.declared.heads.Heads.{Heads}
 use Rattle.answer_bodies.specs.declared.answer.Answer.{Answer}
 use Rattle.ssap_shape.specs.Replies.{confirm_of}
@@ -18,7 +19,7 @@ use Rattle.ssap_shape.specs.declared.request.Ask.{Ask}
 use Rattle.ssap_shape.specs.declared.request.Ask.TheVariants.{Join, Leave, Update, Query, Subscribe, Unsubscribe}
 use Rattle.ssap_shape.specs.declared.request.Request.{Request}
 use Rattle.session_core.specs.Space.{Space, is_member, with_node, without_node, updated}
-use Rattle.session_core.specs.Graph.{graph_after}
+use Rattle.session_core.specs.Graph.{graph_after, terms_of, with_named}
 
 -- a message is for this space
 abbrev pub is_for : Space → Heads → Bool
@@ -33,30 +34,14 @@ is_stranger space heads (Query wish) = not (is_member space heads.node_id)
 is_stranger space heads (Subscribe wish) = not (is_member space heads.node_id)
 is_stranger space heads (Unsubscribe text) = not (is_member space heads.node_id)
 
--- no patterns
-abbrev pub is_none_of : List Pattern → Bool
-is_none_of [] = true
-is_none_of (pattern ∷ patterns) = false
-
--- an update of this transaction is not an insertion, even where it removes nothing: an UPDATE, or a REMOVE of nothing
-abbrev pub is_removal : Transaction → List Pattern → Bool
-is_removal transaction.TheVariants.Update insert = true
-is_removal transaction.TheVariants.Remove insert = is_none_of insert
-is_removal transaction.TheVariants.Join insert = false
-is_removal transaction.TheVariants.Leave insert = false
-is_removal transaction.TheVariants.Insert insert = false
-is_removal transaction.TheVariants.Query insert = false
-is_removal transaction.TheVariants.Subscribe insert = false
-is_removal transaction.TheVariants.Unsubscribe insert = false
-
--- what is asked for is built: to join, to leave and to insert
-abbrev pub is_built : Transaction → Ask → Bool
-is_built kind Join = true
-is_built kind Leave = true
-is_built kind (Update remove insert confirm) = is_none_of remove && not (is_removal kind insert)
-is_built kind (Query wish) = false
-is_built kind (Subscribe wish) = false
-is_built kind (Unsubscribe text) = false
+-- what is asked for is built: to join, to leave and to update
+abbrev pub is_built : Ask → Bool
+is_built Join = true
+is_built Leave = true
+is_built (Update remove insert confirm) = true
+is_built (Query wish) = false
+is_built (Subscribe wish) = false
+is_built (Unsubscribe text) = false
 
 -- a pattern is no triple: it has a wildcard, or a literal where a uri belongs
 abbrev pub is_no_triple : Pattern → Bool
@@ -71,11 +56,17 @@ is_unfit (Query wish) = false
 is_unfit (Subscribe wish) = false
 is_unfit (Unsubscribe text) = false
 
--- what is asked for would pass a limit: of 4,096 joined nodes, or of 262,144 triples after the update
+-- an update would pass a limit: of 262,144 triples after it, or of 268,435,456 bytes of named terms, each counted as the
+-- bytes of its text and 32
+abbrev pub is_overfull : List Triple → List Term → List Pattern → List Pattern → Bool
+is_overfull graph named remove insert =
+    nat_lt 262144 (length (graph_after graph remove insert)) || nat_lt 268435456 (bytes_of_terms (with_named named (terms_of insert)))
+
+-- what is asked for would pass a limit: of 4,096 joined nodes, or one of an update
 abbrev pub is_over : Space → Heads → Ask → Bool
 is_over space heads Join = not (is_member space heads.node_id) && nat_le 4096 (length space.joined)
 is_over space heads Leave = false
-is_over space heads (Update remove insert confirm) = nat_lt 262144 (length (graph_after space.graph remove insert))
+is_over space heads (Update remove insert confirm) = is_overfull space.graph space.named remove insert
 is_over space heads (Query wish) = false
 is_over space heads (Subscribe wish) = false
 is_over space heads (Unsubscribe text) = false
@@ -98,7 +89,7 @@ denied space request = refuse (is_stranger space request.heads request.ask) Acce
 
 -- it asks for what isn't built
 abbrev pub unbuilt : Rank
-unbuilt space request = refuse (not (is_built request.heads.transaction request.ask)) NotImplemented
+unbuilt space request = refuse (not (is_built request.ask)) NotImplemented
 
 -- it says what can't be done
 abbrev pub unfit : Rank
@@ -139,7 +130,8 @@ is_success Syntax = false
 abbrev pub granted : Space → Heads → Ask → Space
 granted space heads Join = with_node space heads.node_id
 granted space heads Leave = without_node space heads.node_id
-granted space heads (Update remove insert confirm) = updated space (graph_after space.graph remove insert)
+granted space heads (Update remove insert confirm) =
+    updated space (graph_after space.graph remove insert) (with_named space.named (terms_of insert))
 granted space heads (Query wish) = space
 granted space heads (Subscribe wish) = space
 granted space heads (Unsubscribe text) = space
@@ -194,6 +186,10 @@ granting space heads ask = record { heads = heads; status = Success; subscriptio
 -- the confirm that tells this status alone, as it is sent
 abbrev pub confirm : Heads → Status → List ℕ
 confirm heads status = confirm_bytes (bare heads status)
+
+-- the confirm of success that tells the status alone, as it is sent, where it is wanted
+abbrev pub due_if : Bool → Heads → Option (List ℕ)
+due_if wanted heads = if not wanted then None else Some (confirm heads Success)
 
 -- the confirm of success, as it is sent, where it is wanted
 abbrev pub success_due : Space → Heads → Ask → Option (List ℕ)

@@ -4,21 +4,23 @@ use Rattle.std.specs.List.{list_any}
 use Rattle.std.specs.Str.{bytes_eq}
 use Rattle.m3_terms.specs.Order.{text_cmp}
 use Rattle.m3_terms.specs.Inserted.{inserted}
+use Rattle.m3_terms.specs.declared.term.Term.{Term}
 use Rattle.m3_terms.specs.declared.triple.Triple.{Triple}
 use Rattle.link_table.specs.Links.{Link}
 
 -- a space: its name, the nodes that joined, in order and each once, all links that were ever opened, in that order, the
--- triples, in order and each once, and how many updates were accepted
+-- triples, in order and each once, the terms that were ever named, each once, and how many updates were accepted
 pub record Space : Type 0 where
   pub name : List ℕ
   pub joined : List (List ℕ)
   pub links : List Link
   pub graph : List Triple
+  pub named : List Term
   pub updates : ℕ
 
 -- the space of this name in which nothing happened
 abbrev pub empty_space : List ℕ → Space
-empty_space name = record { name = name; joined = []; links = []; graph = []; updates = 0 }
+empty_space name = record { name = name; joined = []; links = []; graph = []; named = []; updates = 0 }
 
 -- a node is joined
 abbrev pub is_member : Space → List ℕ → Bool
@@ -32,9 +34,9 @@ with_node space node = record space { joined = inserted text_cmp node space.join
 abbrev pub without_node : Space → List ℕ → Space
 without_node space node = record space { joined = filter (λ other. not (bytes_eq other node)) space.joined }
 
--- the space after an accepted update whose graph is this
-abbrev pub updated : Space → List Triple → Space
-updated space graph = record space { graph = graph; updates = space.updates + 1 }
+-- the space after an accepted update that leaves this graph and these named terms
+abbrev pub updated : Space → List Triple → List Term → Space
+updated space graph named = record space { graph = graph; named = named; updates = space.updates + 1 }
 
 -- a space and how many calls made it
 pub record State : Type 0 where

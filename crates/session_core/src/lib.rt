@@ -3,15 +3,16 @@
 
 mod call;
 mod confirm;
-mod graph;
-mod insert;
+mod facts;
 mod join;
 mod laws;
 mod leave;
+mod numbers;
 mod ranks;
 mod ring;
 mod space;
 mod store;
+mod update;
 
 pub use call::{Call, Reply};
 pub use laws::{
@@ -20,4 +21,4 @@ pub use laws::{
 };
 pub use link_table::LinkState;
 pub use ring::Ring;
-pub use space::{Core, NODE_LIMIT, TRIPLE_LIMIT};
+pub use space::{Core, NODE_LIMIT, TERMS_LIMIT, TRIPLE_LIMIT};

@@ -1,41 +1,25 @@
 //! What refuses a request, in the order in which it decides.
-ghost use Rattle.std.specs.Prelude.{◌≡◌, ◌<◌, ◌^◌, None, OnOk, OnErr};
+ghost use Rattle.std.specs.Prelude.{◌≡◌, ◌+◌, ◌≤◌, ◌<◌, ◌^◌, None, OnOk, OnErr};
 ghost use Rattle.std.specs.List.{list_any};
 ghost use Rattle.ssap_shape.specs.declared.request.Arrived.TheVariants as arrived;
 ghost use Rattle.session_core.specs.Space.{is_member};
-ghost use Rattle.session_core.specs.Requests.{is_for as is_for_it, is_stranger as stranger, is_removal as removal, is_built as built, is_no_triple as no_triple, is_unfit as unfit, wrong_status as wrong, first_of, early_ranks};
+ghost use Rattle.session_core.specs.Requests.{is_for as is_for_it, is_stranger as stranger, is_built as built, is_no_triple as no_triple, is_unfit as unfit, wrong_status as wrong, first_of, early_ranks};
 ghost use Rattle.session_core.specs.Steps.{delivered};
 ghost use Rattle.session_core.specs.Ranks.{asking, passed};
+ghost use Rattle.session_core.specs.Reads.{ask_cost};
 
 use crate::store::Store;
-use m3_terms::{NoMemory, Pattern, Patterns, Slot, Term, Text};
-use ssap_items::{Heads, Transaction};
+use m3_terms::{NoMemory, Pattern, Patterns, Slot, Steps, Term, Text};
+use ssap_items::Heads;
 use ssap_shape::{Ask, Request, Status};
 use std::alloc::Global;
+use std::sync::ledger::Ledger;
 
-fn is_removal(transaction: Transaction, insert: &Patterns) -> bool
-    ensures { result ≡ removal transaction insert.now }
-{
-    match transaction {
-        Transaction::Update => true,
-        Transaction::Remove => insert.is_empty(),
-        Transaction::Join
-        | Transaction::Leave
-        | Transaction::Insert
-        | Transaction::Query
-        | Transaction::Subscribe
-        | Transaction::Unsubscribe => false,
-    }
-}
-
-fn is_built(transaction: Transaction, ask: &Ask) -> bool
-    ensures { result ≡ built transaction ask.now }
+fn is_built(ask: &Ask) -> bool
+    ensures { result ≡ built ask.now }
 {
     match ask {
-        Ask::Join | Ask::Leave => true,
-        Ask::Update { remove, insert, .. } => {
-            remove.is_empty() && !is_removal(transaction, insert)
-        }
+        Ask::Join | Ask::Leave | Ask::Update { .. } => true,
         Ask::Query(_) | Ask::Subscribe(_) | Ask::Unsubscribe(_) => false,
     }
 }
@@ -113,7 +97,7 @@ impl Store {
             Some(Status::Request)
         } else if self.is_stranger(&request.heads, &request.ask) {
             Some(Status::AccessDenied)
-        } else if !is_built(request.heads.transaction, &request.ask) {
+        } else if !is_built(&request.ask) {
             Some(Status::NotImplemented)
         } else if is_unfit(&request.ask) {
             Some(Status::Request)
@@ -123,32 +107,47 @@ impl Store {
     }
 
     /// Does a request and sends its confirm.
-    pub fn request(&mut self, alloc: Global, link: u32, request: Request) -> Result<(), NoMemory>
+    pub fn request<L: Ledger>(
+        &mut self,
+        alloc: Global,
+        link: u32,
+        request: Request,
+        steps: &mut Steps<L>,
+    ) -> Result<(), NoMemory>
         requires { self.old.updates < 2 ^ 62 }
         ensures space { OnOk result (self.new ≡ delivered self.old link (arrived.Request request)) }
         ensures err { OnErr result (self.new ≡ self.old) }
+        ensures cost { steps.new ≤ steps.old + ask_cost self.old.graph request.ask }
     {
         match self.refusal(&request) {
             Some(status) => self.answer(alloc, link, request.heads, status),
-            None => self.pass(alloc, link, request.heads, request.ask),
+            None => self.pass(alloc, link, request.heads, request.ask, steps),
         }
     }
 
     // Does a request that only its limits may refuse.
-    fn pass(&mut self, alloc: Global, link: u32, heads: Heads, ask: Ask) -> Result<(), NoMemory>
+    fn pass<L: Ledger>(
+        &mut self,
+        alloc: Global,
+        link: u32,
+        heads: Heads,
+        ask: Ask,
+        steps: &mut Steps<L>,
+    ) -> Result<(), NoMemory>
         requires passes { first_of early_ranks self.old (asking heads ask) ≡ None }
         requires few { self.old.updates < 2 ^ 62 }
         ensures space { OnOk result (self.new ≡ passed self.old link heads ask) }
         ensures err { OnErr result (self.new ≡ self.old) }
+        ensures cost { steps.new ≤ steps.old + ask_cost self.old.graph ask }
     {
         match ask {
             Ask::Join => self.join(alloc, link, heads),
             Ask::Leave => self.leave(alloc, link, heads),
             Ask::Update {
+                remove,
                 insert,
                 confirm,
-                ..
-            } => self.insert(alloc, link, heads, insert, confirm),
+            } => self.update(alloc, link, heads, &remove, &insert, confirm, steps),
             Ask::Query(_) | Ask::Subscribe(_) | Ask::Unsubscribe(_) => unreachable!(),
         }
     }

@@ -8,6 +8,7 @@ ghost use Rattle.session_core.specs.Runs.{StandsFor, StandsOn};
 use crate::store::Store;
 use crate::{Call, Reply};
 use link_table::LinkState;
+use m3_intern::{Interner, TermKeys};
 use m3_terms::{NoMemory, Steps, Text, Triple};
 use std::alloc::Global;
 use std::marker::Model;
@@ -19,6 +20,9 @@ pub const NODE_LIMIT: usize = 4096;
 
 /// The most triples that the graph may have.
 pub const TRIPLE_LIMIT: usize = 262_144;
+
+/// The most that the terms of all accepted updates may cost: each counts once, as the bytes of its text and 32.
+pub const TERMS_LIMIT: u64 = 268_435_456;
 
 /// A space, which does one call at a time.
 #[derive(Drop)]
@@ -45,8 +49,29 @@ impl Core {
         ensures count { result.count ≡ 0 }
         ensures stands { StandsFor space [] result }
     {
+        Core::over(alloc, space, Interner::new(alloc, TERMS_LIMIT))
+    }
+
+    /// The same, with the terms hashed under keys that those who name them can't know. The keys change the time of calls
+    /// and no answer.
+    pub fn keyed(alloc: Global, space: Text, keys: TermKeys) -> Core
+        ensures space { result.space ≡ empty_space space }
+        ensures count { result.count ≡ 0 }
+        ensures stands { StandsFor space [] result }
+    {
+        Core::over(alloc, space, Interner::keyed(alloc, TERMS_LIMIT, keys))
+    }
+
+    // A space whose terms go into an interner that has none.
+    fn over(alloc: Global, space: Text, terms: Interner) -> Core
+        requires none { terms.terms ≡ [] }
+        requires limit { terms.limit ≡ 268435456 }
+        ensures space { result.space ≡ empty_space space }
+        ensures count { result.count ≡ 0 }
+        ensures stands { StandsFor space [] result }
+    {
         Core {
-            store: Store::new(alloc, space),
+            store: Store::new(alloc, space, terms),
             count: 0,
         }
     }
@@ -68,7 +93,7 @@ impl Core {
         ensures lean { IsLean call → IsOk result }
         ensures cost { steps.new ≤ steps.old + rows_of self.old.space call }
     {
-        let reply = self.store.call(alloc, call)?;
+        let reply = self.store.call(alloc, call, steps)?;
         self.count += 1;
         Ok(reply)
     }
@@ -98,7 +123,7 @@ impl Core {
     pub fn triples(&self) -> u64
         ensures { result ≡ length self.now.space.graph }
     {
-        self.store.graph.len() as u64
+        self.store.facts.len() as u64
     }
 
     /// How many subscriptions live.
@@ -112,7 +137,7 @@ impl Core {
     pub fn contains(&self, triple: &Triple) -> bool
         ensures { IsTrue result ↔ Contains self.now.space.graph triple.now }
     {
-        self.store.graph.contains(triple)
+        self.store.facts.contains(triple)
     }
 
     /// The state of a link.

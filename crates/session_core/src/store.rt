@@ -1,24 +1,27 @@
 //! The space as it is kept, and what a call does to it.
-ghost use Rattle.std.specs.Prelude.{◌≡◌, ◌<◌, ◌^◌, IfOk, OnOk, OnErr, IsOk, length};
+ghost use Rattle.std.specs.Prelude.{◌≡◌, ◌+◌, ◌≤◌, ◌<◌, ◌^◌, [], IfOk, OnOk, OnErr, IsOk, length};
 ghost use Rattle.link_table.specs.Links.{state_of, pending_of};
 ghost use Rattle.ssap_shape.specs.declared.request.Arrived.TheVariants as arrived;
 ghost use Rattle.session_core.specs.Space.{empty_space};
 ghost use Rattle.session_core.specs.Requests.{confirm};
 ghost use Rattle.session_core.specs.Steps.{step, queue, delivered, idle as idle_of, IsLean};
 ghost use Rattle.session_core.specs.Ranks.{is_rung_since, ring_of};
+ghost use Rattle.session_core.specs.Reads.{arrived_cost, cost as rows_of};
 ghost use Rattle.session_core.specs.declared.call.Call.TheVariants as calls;
 ghost use Rattle.session_core.specs.declared.call.Reply.TheVariants as replies;
 
 use crate::confirm::{bare, confirm_message};
-use crate::graph::Graph;
+use crate::facts::Facts;
 use crate::{Call, Reply, Ring};
 use link_table::{LinkState, Links, Message};
-use m3_terms::{NoMemory, Text};
+use m3_intern::Interner;
+use m3_terms::{NoMemory, Steps, Text};
 use ssap_items::Heads;
 use ssap_shape::{Arrived, Status};
 use std::alloc::Global;
 use std::collections::BTreeSet;
 use std::marker::Model;
+use std::sync::ledger::Ledger;
 
 /// A space. Whatever takes memory comes before the first change, so what ends in an `Err` leaves all as it was.
 #[derive(Drop)]
@@ -26,19 +29,20 @@ pub(crate) struct Store {
     pub name: Text,
     pub joined: BTreeSet<Text>,
     pub links: Links,
-    pub graph: Graph,
+    pub facts: Facts,
     pub updates: u64,
 }
 
 impl Model for Store {
     ghost use Rattle.session_core.specs.Space.{Space};
     ghost use Rattle.session_core.specs.Kept.{IsKept};
+    ghost use Rattle.session_core.specs.Numbers.{graph_of};
 
     ghost Value = { Space };
 
-    ghost view = { λ s. record { name = s.name; joined = s.joined.keys; links = s.links; graph = s.graph; updates = s.updates } };
+    ghost view = { λ s. record { name = s.name; joined = s.joined.keys; links = s.links; graph = graph_of s.facts; named = s.facts.terms; updates = s.updates } };
 
-    ghost invariant = { λ s. IsKept (record { name = s.name; joined = s.joined.keys; links = s.links; graph = s.graph; updates = s.updates }) };
+    ghost invariant = { λ s. IsKept (record { name = s.name; joined = s.joined.keys; links = s.links; graph = graph_of s.facts; named = s.facts.terms; updates = s.updates }) };
 }
 
 fn idle(state: LinkState) -> Reply
@@ -51,30 +55,38 @@ fn idle(state: LinkState) -> Reply
 }
 
 impl Store {
-    /// A space in which nothing happened. It takes no memory.
-    pub fn new(alloc: Global, name: Text) -> Store
+    /// A space in which nothing happened, whose terms go into an interner that has none. It takes no memory.
+    pub fn new(alloc: Global, name: Text, terms: Interner) -> Store
+        requires none { terms.terms ≡ [] }
+        requires limit { terms.limit ≡ 268435456 }
         ensures { result ≡ empty_space name }
     {
         Store {
             name,
             joined: BTreeSet::new(alloc),
             links: Links::new(alloc),
-            graph: Graph::new(alloc),
+            facts: Facts::new(alloc, terms),
             updates: 0,
         }
     }
 
     /// Does a call and answers it.
-    pub fn call(&mut self, alloc: Global, call: Call) -> Result<Reply, NoMemory>
+    pub fn call<L: Ledger>(
+        &mut self,
+        alloc: Global,
+        call: Call,
+        steps: &mut Steps<L>,
+    ) -> Result<Reply, NoMemory>
         requires { self.old.updates < 2 ^ 62 }
         ensures reply { IfOk result (λ reply. reply ≡ (step self.old call).reply) }
         ensures space { OnOk result (self.new ≡ (step self.old call).space) }
         ensures err { OnErr result (self.new ≡ self.old) }
+        ensures cost { steps.new ≤ steps.old + rows_of self.old call }
         ensures lean { IsLean call → IsOk result }
     {
         match call {
             Call::NewLink => self.open(),
-            Call::Deliver(link, arrived) => self.deliver(alloc, link, arrived),
+            Call::Deliver(link, arrived) => self.deliver(alloc, link, arrived, steps),
             Call::End(link) => Ok(self.end(alloc, link)),
             Call::Lost(link) => Ok(self.lose(alloc, link)),
             Call::Take(link) => Ok(self.take(link)),
@@ -107,27 +119,41 @@ impl Store {
         Reply::Done { ring }
     }
 
-    fn deliver(&mut self, alloc: Global, link: u32, arrived: Arrived) -> Result<Reply, NoMemory>
+    fn deliver<L: Ledger>(
+        &mut self,
+        alloc: Global,
+        link: u32,
+        arrived: Arrived,
+        steps: &mut Steps<L>,
+    ) -> Result<Reply, NoMemory>
         requires { self.old.updates < 2 ^ 62 }
         ensures reply { IfOk result (λ reply. reply ≡ (step self.old (calls.Deliver link arrived)).reply) }
         ensures space { OnOk result (self.new ≡ (step self.old (calls.Deliver link arrived)).space) }
         ensures err { OnErr result (self.new ≡ self.old) }
+        ensures cost { steps.new ≤ steps.old + arrived_cost self.old.graph arrived }
     {
         match self.links.state(link) {
             LinkState::Never => Ok(Reply::NoLink),
             LinkState::Open => {
                 let waited = self.links.waiting(link);
-                self.arrive(alloc, link, arrived)?;
+                self.arrive(alloc, link, arrived, steps)?;
                 Ok(self.told(alloc, link, waited))
             }
             LinkState::Ended | LinkState::Overrun | LinkState::Gone => Ok(Reply::Closed),
         }
     }
 
-    fn arrive(&mut self, alloc: Global, link: u32, arrived: Arrived) -> Result<(), NoMemory>
+    fn arrive<L: Ledger>(
+        &mut self,
+        alloc: Global,
+        link: u32,
+        arrived: Arrived,
+        steps: &mut Steps<L>,
+    ) -> Result<(), NoMemory>
         requires { self.old.updates < 2 ^ 62 }
         ensures space { OnOk result (self.new ≡ delivered self.old link arrived) }
         ensures err { OnErr result (self.new ≡ self.old) }
+        ensures cost { steps.new ≤ steps.old + arrived_cost self.old.graph arrived }
     {
         match arrived {
             Arrived::NotRequest => {
@@ -138,7 +164,7 @@ impl Store {
                 let status = self.wrong_status(&heads, status);
                 self.answer(alloc, link, heads, status)
             }
-            Arrived::Request(request) => self.request(alloc, link, request),
+            Arrived::Request(request) => self.request(alloc, link, request, steps),
         }
     }
 

@@ -7,7 +7,7 @@ use Rattle.session_core.proofs.Told.{told_delivered, told_reply}
 use Rattle.session_core.proofs.store.Store.deliver.Goals as goal
 
 pub returns-in_ok-arrive-in-Open-clause-reply : goal.returns-in_ok-arrive-in-Open-clause-reply
-returns-in_ok-arrive-in-Open-clause-reply c =
+returns-in_ok-arrive-in-Open-clause-reply g c =
     let h = ap (λ s. state_of s.links c.args.link) (sym c.self.view_is) ∙ sym c.in-Open.ensures in
     let waited = c.waiting-waited.ensures ∙ ap (λ s. length (pending_of s.links c.args.link)) c.self.view_is in
     rw h (told_reply c.args.self.now (delivered c.args.self.now c.args.link c.args.arrived) c.args.link c.waiting-waited.result _ h

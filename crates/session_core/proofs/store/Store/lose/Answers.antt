@@ -2,6 +2,7 @@ use Rattle.std.proofs.Common.{◌∙◌, ap, sym, length, refl}
 use Rattle.link_table.specs.Links.{state_of, pending_of, changed, lost}
 use Rattle.link_table.specs.declared.state.LinkState.TheVariants.{Ended, Overrun, Gone}
 use mathlib.Core.Logic.{⊎_elim}
+use Rattle.session_core.specs.Numbers.{graph_of}
 use Rattle.session_core.specs.Steps.{with_links}
 use Rattle.session_core.specs.Ranks.{is_rung_since, ring_of}
 use Rattle.session_core.specs.declared.call.Reply.TheVariants.{Done}
@@ -25,6 +26,6 @@ returns-in-Ended c =
     (λ e. lost_closed c.args.self.now c.args.link Gone (h ∙ e) refl (λ never. cc)) other) c.in-Ended.is in
     record {
       reply = ap Done c.none.ensures ∙ sym (ap (λ s. s.reply) done);
-      space = ap (λ l. record { name = c.self.inside.name; joined = c.self.inside.joined.keys; links = l; graph = c.self.inside.graph; updates = c.self.inside.updates }) c.lose.ensures
+      space = ap (λ l. record { name = c.self.inside.name; joined = c.self.inside.joined.keys; links = l; graph = graph_of c.self.inside.facts; named = c.self.inside.facts.terms; updates = c.self.inside.updates }) c.lose.ensures
           ∙ ap (λ s. with_links s (changed lost s.links c.args.link)) c.self.view_is ∙ sym (ap (λ s. s.space) done);
     }

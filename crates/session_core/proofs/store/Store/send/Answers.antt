@@ -6,6 +6,5 @@ use Rattle.session_core.proofs.store.Store.send.Goals as goal
 pub invariant_of-self : goal.invariant_of-self
 invariant_of-self c = record {
   joined = c.self.invariant.joined;
-  graph = c.self.invariant.graph;
   opened = subst AllOpened (sym c.send.ensures) (changed-opened _ (sent-opened c.args.message) _ _ c.self.invariant.opened);
 }
