@@ -1,4 +1,4 @@
--- What a replay writes: a function of what the entries of the script are taken as, of which every answer is found anew from
+-- What a replay writes: a function of the events that the entries of the script cause. Every answer is computed afresh from
 -- all that came before.
 use Rattle.std.specs.Prelude.{◌≡◌, ◌⊎◌, ℕ, ◌+◌, ◌≤◌, Bool, true, false, ◌==◌, if◌then◌else◌, List, [], ◌∷◌, ◌++◌, flat_map, replicate, length, drop, codes, Option, Some, None, MatchBool, ⊤}
 use Rattle.std.specs.List.{count_by, AllByRecursion}
@@ -26,7 +26,7 @@ use Rattle.session_core.specs.Reads.{costs}
 use Rattle.sib_app.specs.declared.why.Why.{Why}
 use Rattle.sib_app.specs.declared.why.Why.TheVariants.{Syntax, Long, Cut, Request, Overrun}
 
--- what an entry is taken as: some events
+-- an event that an entry causes
 pub data Event : Type 0 where
   -- a link is asked for
   Opens : Event
@@ -162,8 +162,8 @@ AreArrived name before link front rest (message ∷ messages) events = (arrived 
     × GoesOn (is_open_after name (before ++ Arrives link message.start arrived ∷ []) link) (Arrives link message.start arrived)
     (AreArrived name (before ++ Arrives link message.start arrived ∷ []) link front rest messages) events
 
--- what all the bytes of a link are taken as, where so many of their messages came before: the messages behind those, in a
--- front of the bytes that is let through. It is the longest such front, or has a message behind which the link isn't open:
+-- the events of all the bytes of a link, of whose messages so many came before: the messages behind those, in a
+-- prefix of the bytes that is let through. It is the longest such prefix, or has a message behind which the link isn't open:
 -- what follows that is passed over
 pub record AreHeard (name : List ℕ) (before : List Event) (link came : ℕ) (bytes : List ℕ) (events : List Event) : Type 0 where
   pub front : List ℕ
@@ -173,29 +173,29 @@ pub record AreHeard (name : List ℕ) (before : List Event) (link came : ℕ) (b
   pub through : AreLet front messages
   pub taken : AreArrived name before link front rest (drop came messages) events
 
--- what a delivery on an open link is taken as
+-- the events of a delivery on an open link
 abbrev pub IsHeard : List ℕ → List Event → ℕ → List ℕ → List Event → Type 0
 IsHeard name before link bytes events = (others : List Event) × (events ≡ Hears link bytes ∷ others)
     × AreHeard name (before ++ Hears link bytes ∷ []) link (arrived_on before link) (heard before link ++ bytes) others
 
--- what the end of an open link's input is taken as: it comes behind the last message, or inside one
+-- the events of the end of an open link's input: it comes behind the last message, or inside one
 abbrev pub IsEnded : List Event → ℕ → List Event → Type 0
 IsEnded before link events = ((messages : List Placed) × Stream (heard before link) messages × (events ≡ Ends link ∷ []))
     ⊎ ((start : ℕ) × IsInside (heard before link) start × (events ≡ Stops link (Cut start) ∷ []))
 
--- what an entry after others is taken as
+-- the events that an entry after others causes
 abbrev pub IsTaken : List ℕ → List Event → Entry → List Event → Type 0
 IsTaken name before NewLink events = events ≡ Opens ∷ []
 IsTaken name before (Bytes link bytes) events = MatchBool (is_open_after name before link) (IsHeard name before link bytes events) (events ≡ Closed link ∷ [])
 IsTaken name before (End link) events = MatchBool (is_open_after name before link) (IsEnded before link events) (events ≡ Closed link ∷ [])
 
--- what entries after others are taken as, one after another
+-- the events that entries after others cause, one after another
 abbrev pub AreTakenAfter : List ℕ → List Event → List Entry → List Event → Type 0
 AreTakenAfter name before [] events = events ≡ []
 AreTakenAfter name before (entry ∷ entries) events = (first : List Event) × (others : List Event) × (events ≡ first ++ others)
     × IsTaken name before entry first × AreTakenAfter name (before ++ first) entries others
 
--- what the entries of a script are taken as in the space of this name
+-- the events that the entries of a script cause in the space of this name
 abbrev pub AreTaken : List ℕ → List Entry → List Event → Type 0
 AreTaken name entries events = AreTakenAfter name [] entries events
 
@@ -302,7 +302,7 @@ answers name events = answers_after name [] events
 unfoldable pub last_line : Space → List ℕ
 last_line space = codes "= " ++ decimal space.updates ++ codes " " ++ decimal (length space.graph) ++ codes " " ++ decimal (live_subscriptions space) ++ 10 ∷ []
 
--- the line of an input that is no script: its place is the length of the longest front that begins one
+-- the line of an input that is no script: its offset is the length of the longest prefix that begins one
 unfoldable pub fault_line : ℕ → List ℕ
 fault_line place = codes "? " ++ decimal place ++ 10 ∷ []
 

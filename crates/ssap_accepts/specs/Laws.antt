@@ -13,11 +13,11 @@ AcceptsSpelled = (bytes : List ℕ) (envelope : Envelope) → Spells bytes envel
 abbrev pub AcceptedSpells : Type 0
 AcceptedSpells = (bytes : List ℕ) → IsMessage bytes → (envelope : Envelope) × Spells bytes envelope
 
--- all bytes are the front of some stream or of none
+-- all bytes are a prefix of some stream or of none
 abbrev pub ViabilityIsDecided : Type 0
 ViabilityIsDecided = (bytes : List ℕ) → IsViable bytes ⊎ (IsViable bytes → ⊥)
 
--- all bytes have a longest front that is a stream
+-- all bytes have a longest prefix that is a stream
 abbrev pub WholesExist : Type 0
 WholesExist = (bytes : List ℕ) → (whole : ℕ) × IsWhole bytes whole
 
@@ -25,7 +25,7 @@ WholesExist = (bytes : List ℕ) → (whole : ℕ) × IsWhole bytes whole
 abbrev pub MessagesExist : Type 0
 MessagesExist = (bytes : List ℕ) → (messages : List Placed) × AreMessages bytes messages
 
--- and a longest front that is viable
+-- and a longest prefix that is viable
 abbrev pub PlacesExist : Type 0
 PlacesExist = (bytes : List ℕ) → (place : ℕ) × IsPlace bytes place
 

@@ -27,7 +27,7 @@ Halts stack pending rest Whole = (stack ≡ []) × (pending ≡ [])
 Halts stack pending rest Half = (stack ≢ []) × IsPending stack pending × (rest ≡ [])
 Halts stack pending rest Stuck = (stack ≢ []) × IsPending stack pending × Sticks stack pending rest
 
--- the machine walks as far as it can: some lexemes, and then a front of one
+-- the machine walks as far as it can: some lexemes, and then a prefix of one
 pub record Reads (stack : List Symbol) (bytes : List ℕ) (walked : Walked) : Type 0 where
   pub count : walked.count ≤ walked.reach
   pub reach : walked.reach ≤ length bytes

@@ -1,4 +1,4 @@
--- Which word of some candidates stands at the front of the bytes.
+-- Which word of some candidates stands at the start of the bytes.
 use Rattle.std.specs.Prelude.{◌≡◌, ◌⊎◌, ℕ, ◌+◌, ◌<◌, ◌≤◌, ◌==◌, max, if◌then◌else◌, true, List, [], ◌∷◌, ◌++◌, length, take}
 use Rattle.ssap_machine.specs.Words.{Word}
 use Rattle.ssap_machine.specs.Options.{Choice, where_true, finishes, content}
@@ -39,7 +39,7 @@ pushed (Listed item list) = Spaced word.Name ∷ Next word.Equals ∷ Quote ∷ 
 pushed (Within symbol name) = symbol ∷ finishes name
 pushed (Content name) = content name
 
--- the length of the front that a word and the bytes have in common
+-- the length of the prefix that a word and the bytes have in common
 unfoldable pub common : List ℕ → List ℕ → ℕ
 common [] bytes = 0
 common (x ∷ word) [] = 0
@@ -54,7 +54,7 @@ abbrev pub offers : List Candidate → List Choice
 offers [] = []
 offers (candidate ∷ candidates) = offer candidate ++ offers candidates
 
--- what is found where nothing was, and so long a front of some word stands at the front of the bytes
+-- what is found where nothing was, and so long a prefix of some word stands at the start of the bytes
 abbrev pub none_found : ℕ → List ℕ → Found
 none_found longest bytes = if longest == length bytes then Half else Stuck longest
 
@@ -70,7 +70,7 @@ found longest (candidate ∷ candidates) bytes = if candidate.allowed then
 pub record Finds (candidates : List Candidate) (bytes : List ℕ) (result : Found) : Type 0 where
   pub is : result ≡ found 0 candidates bytes
 
--- the bytes are nothing, or a front of some word and not the whole of it
+-- the bytes are nothing, or a prefix of some word and not the whole of it
 abbrev pub IsFrontOf : List Choice → List ℕ → Type 0
 IsFrontOf choices bytes = (bytes ≡ []) ⊎ ((word : List ℕ) × (symbols : List Symbol) × (more : List ℕ) × (0 < length more)
     × IsAmong (Word word, symbols) choices × (word ≡ bytes ++ more))

@@ -17,7 +17,7 @@ pub record IsRun (first second third : ℕ) (bytes : List ℕ) : Type 0 where
   pub plain : AllByRecursion (IsPlain first second third) characters
   pub is : encode_utf8_all characters ≡ bytes
 
--- no plain character of ASCII is at the front
+-- no plain character of ASCII is at the start
 abbrev pub Stops : ℕ → ℕ → ℕ → List ℕ → Type 0
 Stops first second third [] = Unit {0}
 Stops first second third (byte ∷ bytes) = byte < 128 → IsAllowed byte → IsOneOf first second third byte

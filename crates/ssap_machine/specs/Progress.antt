@@ -34,7 +34,7 @@ pub record Faults (old : List Symbol) (bytes : List ℕ) (place : ℕ) : Type 0 
   pub pending : IsPending symbols (drop from (take place bytes))
   pub stuck : IsStuck symbols (drop from (take (place + 1) bytes))
 
--- the bytes lead from the old symbols to none, or to new ones and a front of a lexeme, or to a fault
+-- the bytes lead from the old symbols to none, or to new ones and a prefix of a lexeme, or to a fault
 abbrev pub Advances : List Symbol → List ℕ → Progress → List Symbol → Type 0
 Advances old bytes (Whole taken) new = (taken ≤ length bytes) × (new ≡ []) × Walks old (take taken bytes) []
 Advances old bytes (Half from) new = (from ≤ length bytes) × (new ≢ []) × Walks old (take from bytes) new × IsPending new (drop from bytes)
@@ -56,7 +56,7 @@ OnlyWords symbol (byte ∷ bytes) = (lexeme : Lexeme) (pushed : List Symbol) (ot
 abbrev pub TakesCharacters : Symbol → Symbol → Type 0
 TakesCharacters symbol next = (character : ℕ) → 128 ≤ character → IsAllowed character → Begins symbol (encode_utf8 character) (next ∷ [])
 
--- a plain character at the front of the bytes leads the symbol to the next
+-- a plain character at the start of the bytes leads the symbol to the next
 abbrev pub PlainBegins : Symbol → Symbol → ℕ → ℕ → ℕ → List ℕ → Type 0
 PlainBegins symbol next first second third bytes = (character : ℕ) (rest : List ℕ) → IsPlain first second third character
     → bytes ≡ encode_utf8 character ++ rest → Begins symbol (encode_utf8 character) (next ∷ [])

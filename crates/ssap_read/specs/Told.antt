@@ -1,4 +1,4 @@
--- What a reader says of the front of some bytes: the one value there with what is left, or that there is none.
+-- What a reader says of the start of some bytes: the one value there with what is left, or that there is none.
 use Rattle.std.specs.Prelude.{◌≡◌, ℕ, List, Option, Some, None, ⊤}
 use Rattle.std.specs.Borrow.{Bor}
 use Rattle.ssap_grammar.specs.Front.{Front}
@@ -7,12 +7,12 @@ use Rattle.ssap_grammar.specs.Front.{Front}
 abbrev pub Whatever : List ℕ → Type 0
 Whatever bytes = ⊤
 
--- the value stands at the front, and no other value or rest does with what Follow says behind it
+-- the value stands at the start, and no other value or rest does with what Follow says behind it
 pub record IsOnly {A : Type 0} (Reads : A → Front) (Follow : List ℕ → Type 0) (bytes : List ℕ) (value : A) (rest : List ℕ) : Type 0 where
   pub reads : Reads value bytes rest
   pub only : (other : A) (left : List ℕ) → Reads other bytes left → Follow left → (other ≡ value) × (left ≡ rest)
 
--- no value stands at the front with what Follow says behind it
+-- no value stands at the start with what Follow says behind it
 abbrev pub IsNone : {A : Type 0} → (A → Front) → (List ℕ → Type 0) → List ℕ → Type 0
 IsNone {A = A} Reads Follow bytes = (other : A) (left : List ℕ) → Reads other bytes left → ¬ (Follow left)
 

@@ -15,7 +15,7 @@ is_mark Tag = is_byte2 60 38
 is_mark DoubleQuote = is_byte3 60 38 34
 is_mark SingleQuote = is_byte3 60 38 39
 
--- the end stands at the front
+-- the end stands at the start
 abbrev pub Follows : End → List ℕ → Type 0
 Follows Tag bytes = BeginsFinish bytes
 Follows DoubleQuote bytes = (more : List ℕ) × (bytes ≡ 34 ∷ more)
@@ -27,7 +27,7 @@ Reads Tag value bytes rest = ReadsText value bytes rest
 Reads DoubleQuote value bytes rest = ReadsValueText value 34 bytes rest
 Reads SingleQuote value bytes rest = ReadsValueText value 39 bytes rest
 
--- none with its end behind it stands at the front
+-- none with its end behind it stands at the start
 abbrev pub NoReading : End → List ℕ → Type 0
 NoReading end bytes = (value rest : List ℕ) → Reads end value bytes rest → ¬ (Follows end rest)
 
@@ -44,7 +44,7 @@ ReadsMarked Tag value bytes rest = OneOf references value bytes rest ⊎ ReadsSe
 ReadsMarked DoubleQuote value bytes rest = OneOf references value bytes rest
 ReadsMarked SingleQuote value bytes rest = OneOf references value bytes rest
 
--- a quote stands at the front, and the value that it opens ends so
+-- a quote stands at the start, and the value that it opens ends so
 abbrev pub Opens : End → List ℕ → List ℕ → Type 0
 Opens Tag bytes inner = ⊥
 Opens DoubleQuote bytes inner = bytes ≡ 34 ∷ inner
