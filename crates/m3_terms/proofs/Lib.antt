@@ -4,4 +4,3 @@ pub mod TextHad
 pub mod TextLaws
 pub mod PlainRuns
 pub mod Starts
-pub mod OrderedKeys
