@@ -1,0 +1,3 @@
+pub mod FilteredPermutations
+pub mod OrderOnce
+pub mod OneMoreTemplate

@@ -1,0 +1,8 @@
+//! Answers to template lists, read from a view of the graph.
+#![tactic(auto)]
+
+mod fault;
+mod matching;
+
+pub use fault::EvalFault;
+pub use matching::{WIDTH_LIMIT, matches};
