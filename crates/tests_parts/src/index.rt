@@ -11,7 +11,7 @@ use std::test::Fail;
 use triple_index::{Change, IdPattern, IdPatterns, IdTriple, IdTriples, Index, View};
 
 /// A triple or a mask of a table; in a mask, 0 is the wildcard.
-type Numbers = [u32; 3];
+pub(crate) type Numbers = [u32; 3];
 
 const SMALL: [Numbers; 3] = [[6, 2, 3], [1, 4, 5], [1, 2, 3]];
 
@@ -27,7 +27,7 @@ const FITTING: [(Numbers, usize); 8] = [
     ([0, 0, 0], 3),
 ];
 
-fn triple(numbers: &Numbers) -> IdTriple {
+pub(crate) fn triple(numbers: &Numbers) -> IdTriple {
     IdTriple {
         subject: TermId(numbers[0]),
         predicate: TermId(numbers[1]),
@@ -51,7 +51,7 @@ fn mask(numbers: &Numbers) -> IdPattern {
     }
 }
 
-fn triples(alloc: Global, table: &[Numbers]) -> Result<IdTriples, NoMemory> {
+pub(crate) fn triples(alloc: Global, table: &[Numbers]) -> Result<IdTriples, NoMemory> {
     let mut triples = IdTriples::new(alloc);
     for numbers in table {
         triples.push(triple(numbers))?;
@@ -59,7 +59,7 @@ fn triples(alloc: Global, table: &[Numbers]) -> Result<IdTriples, NoMemory> {
     Ok(triples)
 }
 
-fn masks(alloc: Global, table: &[Numbers]) -> Result<IdPatterns, NoMemory> {
+pub(crate) fn masks(alloc: Global, table: &[Numbers]) -> Result<IdPatterns, NoMemory> {
     let mut masks = IdPatterns::new(alloc);
     for numbers in table {
         masks.push(mask(numbers))?;
@@ -67,15 +67,15 @@ fn masks(alloc: Global, table: &[Numbers]) -> Result<IdPatterns, NoMemory> {
     Ok(masks)
 }
 
-/// The index of the triples of a table.
-fn index_of<L: Ledger>(
+/// The index of these triples.
+pub(crate) fn index_of<L: Ledger>(
     alloc: Global,
-    table: &[Numbers],
+    triples: &IdTriples,
     steps: &mut Steps<L>,
 ) -> Result<Index, NoMemory> {
     let mut index = Index::new(alloc);
     let none = IdPatterns::new(alloc);
-    let change = Change::net(alloc, &index, &none, &triples(alloc, table)?, steps)?;
+    let change = Change::net(alloc, &index, &none, triples, steps)?;
     index.reserve(change.inserted().len())?;
     index.apply(&change);
     Ok(index)
@@ -97,7 +97,7 @@ fn rows_fit<L: Ledger>(rt: &impl Abort, alloc: Global, blank: Blank) -> Result<(
     requires some { 0 < L.parts }
 {
     let mut steps = Steps::<L>::new(blank);
-    let index = index_of(alloc, &SMALL, &mut steps)?;
+    let index = index_of(alloc, &triples(alloc, &SMALL)?, &mut steps)?;
     let view = View::plain(&index);
     for (numbers, count) in &FITTING {
         let seen = count_rows(&view, &mask(numbers), &mut steps);
@@ -148,7 +148,7 @@ fn update<L: Ledger>(rt: &impl Abort, alloc: Global, blank: Blank) -> Result<(),
     requires some { 0 < L.parts }
 {
     let mut steps = Steps::<L>::new(blank);
-    let mut index = index_of(alloc, &SMALL, &mut steps)?;
+    let mut index = index_of(alloc, &triples(alloc, &SMALL)?, &mut steps)?;
     let change = exchange(alloc, &index, &mut steps)?;
     assert_eq!(rt; outline(change.removed()), (1, 1));
     assert_eq!(rt; outline(change.inserted()), (1, 3));

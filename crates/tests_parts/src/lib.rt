@@ -8,6 +8,8 @@ mod index;
 #[cfg(test)]
 mod interner;
 #[cfg(test)]
+mod joins;
+#[cfg(test)]
 mod links;
 #[cfg(test)]
 mod outside;
