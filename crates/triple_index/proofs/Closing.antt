@@ -1,5 +1,6 @@
 -- Triples taken out of a list in place.
 use Rattle.std.proofs.Common.{◌≡◌, ℕ, ◌+◌, ◌<◌, ◌≤◌, Bool, true, false, not, List, [], ◌∷◌, ◌++◌, length, get_or, set, take, drop, filter, Contains, refl, sym, ap, subst, ◌∙◌, arith, add-zero}
+use Rattle.std.proofs.lemmas.Bool.{false_from_ne_true}
 use Rattle.std.proofs.lemmas.List.{take-append-drop, drop_more, get_or-drop, nil_from_length}
 use Rattle.std.proofs.lemmas.List.Elements.{All-contains, All-head, All-tail, filter_passes, filter-append}
 use Rattle.std.proofs.lemmas.List.Filters.{FiltersInPlace, FiltersInPlace-more_no, FiltersInPlace-more_set, FiltersInPlace-all}
@@ -115,11 +116,6 @@ closing_gone old now removed left rest kept at x c within read is =
           (sym is ∙ c.coming ∙ ap (filter (goes removed)) here ∙ kept_first (goes removed) x (drop (at + 1) old) head_goes);
     }
 
--- a test whose truth is refuted answers false
-refuted : (b : Bool) → (b ≡ true → ⊥) → b ≡ false
-refuted true h = absurd (h refl)
-refuted false h = refl
-
 -- where two lists agree from a place on, they have one item there
 read_old : (old now : List IdTriple) (at : ℕ) (x : IdTriple) → at < length now → drop at now ≡ drop at old → x ≡ get_or now at x → x ≡ get_or old at x
 read_old old now at x within same read =
@@ -132,7 +128,7 @@ pub closing_stays : (old now removed left : List IdTriple) (kept at : ℕ) (x : 
     → IsClosing old (set now kept x) removed left (kept + 1) (at + 1)
 closing_stays old now removed left kept at x c within read other =
     let seen : drop at old ≡ x ∷ drop (at + 1) now = sym c.keeps.rest ∙ here_is now at x within read in
-    let not_gone : goes removed x ≡ false = refuted (goes removed x) (λ t.
+    let not_gone : goes removed x ≡ false = false_from_ne_true (goes removed x) (λ t.
     other (filter (goes removed) (drop (at + 1) now)) (c.coming ∙ ap (filter (goes removed)) seen ∙ kept_first (goes removed) x (drop (at + 1) now) t)) in
     let keeps = FiltersInPlace-more_set c.keeps within (ap not not_gone) read in
     let behind : drop (at + 1) old ≡ drop (at + 1) now = rests_same x x _ _ (sym (here_is old at x (omega (arith, c.keeps.long)) (read_old old now at x within c.keeps.rest read)) ∙ seen) in

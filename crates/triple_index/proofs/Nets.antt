@@ -1,6 +1,7 @@
 -- What a net change is made of, and what it makes of a graph.
-use Rattle.std.proofs.Common.{◌≡◌, ℕ, ◌+◌, ◌≤◌, ◌⊎◌, Bool, true, false, List, [], ◌∷◌, ◌++◌, ◌||◌, ◌<◌, length, get_or, take, filter, Contains, refl, sym, subst, ◌∙◌, inl, inr, arith}
-use Rattle.std.proofs.lemmas.Bool.{true≢false}
+use Rattle.std.proofs.Common.{◌≡◌, ℕ, ◌+◌, ◌≤◌, ◌⊎◌, Bool, true, false, List, [], ◌∷◌, ◌++◌, ◌||◌, ◌<◌, length, get_or, take, filter, Contains, refl, sym, ap, subst, ◌∙◌, inl, inr, arith}
+use Rattle.std.proofs.lemmas.Bool.{true≢false, false_from_ne_true, or_cases, or_left, or_right}
+use Rattle.std.proofs.Math.Bool.{or-false}
 use Rattle.std.proofs.lemmas.List.Kept.{IsStrictlySortedBy-dedup, Contains-dedup, Contains-from_dedup}
 use Rattle.std.proofs.lemmas.List.{take_more, take_all}
 use Rattle.std.proofs.lemmas.List.Elements.{All-contains, filter_passes, Contains-append_left, Contains-append_right, Contains-append_cases}
@@ -46,14 +47,9 @@ dedup_same triples sorted left p e =
 pub not_among : (others : List IdTriple) (q : IdTriple) → fits_one id_triple_eq others q ≡ false → Contains others q → ⊥
 not_among others q h c = true≢false (sym (found_among id_triple_eq id_triple_exact others q c) ∙ h)
 
--- a test whose truth is refuted answers false
-pub refuted : (b : Bool) → (b ≡ true → ⊥) → b ≡ false
-refuted true h = absurd (h refl)
-refuted false h = refl
-
 -- what is not there is not found
 pub not_found : (others : List IdTriple) (q : IdTriple) → (Contains others q → ⊥) → fits_one id_triple_eq others q ≡ false
-not_found others q h = refuted (fits_one id_triple_eq others q) (λ t. h (is_found id_triple_eq id_triple_exact others q t))
+not_found others q h = false_from_ne_true (fits_one id_triple_eq others q) (λ t. h (is_found id_triple_eq id_triple_exact others q t))
 
 -- triples without others, as a list, are the triples that are not among the others
 pub without_rest : (triples others : List IdTriple) → IsRest triples others (without id_triple_eq triples others)
@@ -80,7 +76,7 @@ from_change graph read wanted removed inserted insert remove f w r i q (inr c) w
 from_change graph read wanted removed inserted insert remove f w r i q (inl h) true e = inr ((w q).0 (is_found id_triple_eq id_triple_exact wanted q e))
 from_change graph read wanted removed inserted insert remove f w r i q (inl h) false e = inl (
   h.0,
-  refuted (fits_one fits remove q)
+  false_from_ne_true (fits_one fits remove q)
       (λ t. not_among removed q h.1 ((r q).1 ((f q).1 (h.0, t), not_among wanted q e))),
 )
 
@@ -116,24 +112,9 @@ pub kept_passes : {X : Type 0} (test : X → Bool) (xs : List X) (q : X) → Con
 kept_passes test xs q c = All-contains (λ x. test x ≡ true) (filter test xs) q (filter_passes test xs) c
 
 -- an item fits one of some patterns and one more where it fits one of them or that one
-fits_more : (patterns : List IdPattern) (pattern : IdPattern) (t : IdTriple)
-    → fits_one fits (patterns ++ pattern ∷ []) t ≡ (fits_one fits patterns t || (fits pattern t || false))
-fits_more patterns pattern t = list_any-append (λ p. fits p t) patterns (pattern ∷ [])
-
--- of two tests, the first passes, or the second does
-one_passes : (a b : Bool) → (a || (b || false)) ≡ true → (a ≡ true) ⊎ (b ≡ true)
-one_passes true b h = inl refl
-one_passes false true h = inr refl
-one_passes false false h = inr h
-
-first_passes : (a b : Bool) → a ≡ true → (a || b) ≡ true
-first_passes true b h = refl
-first_passes false b h = cc
-
-last_passes : (a b : Bool) → b ≡ true → (a || (b || false)) ≡ true
-last_passes true b h = refl
-last_passes false true h = refl
-last_passes false false h = h
+pub fits_more : (patterns : List IdPattern) (pattern : IdPattern) (t : IdTriple)
+    → fits_one fits (patterns ++ pattern ∷ []) t ≡ (fits_one fits patterns t || fits pattern t)
+fits_more patterns pattern t = list_any-append (λ p. fits p t) patterns (pattern ∷ []) ∙ ap (λ b. fits_one fits patterns t || b) (or-false (fits pattern t))
 
 -- nothing fits no patterns
 pub fitting_none : (graph read : List IdTriple) → read ≡ [] → HasFitting graph [] read
@@ -144,15 +125,15 @@ pub fitting_more : (graph read rows more : List IdTriple) (patterns : List IdPat
     → IsPermutation (filter (fits pattern) graph) rows → more ≡ read ++ rows → HasFitting graph (patterns ++ pattern ∷ []) more
 fitting_more graph read rows more patterns pattern f p e = subst (HasFitting graph (patterns ++ pattern ∷ [])) (sym e) (λ t. (
   λ c. ⊎_elim
-      (λ old. (((f t).0 old).0, fits_more patterns pattern t ∙ first_passes (fits_one fits patterns t) (fits pattern t || false) ((f t).0 old).1))
+      (λ old. (((f t).0 old).0, fits_more patterns pattern t ∙ or_left (fits_one fits patterns t) (fits pattern t) ((f t).0 old).1))
       (λ new.
       let kept = Contains-permutation rows (filter (fits pattern) graph) t (IsPermutation-sym _ rows p) new in
-      (was_there (fits pattern) graph t kept, fits_more patterns pattern t ∙ last_passes (fits_one fits patterns t) (fits pattern t) (kept_passes (fits pattern) graph t kept)))
+      (was_there (fits pattern) graph t kept, fits_more patterns pattern t ∙ or_right (fits_one fits patterns t) (fits pattern t) (kept_passes (fits pattern) graph t kept)))
       (Contains-append_cases read rows t c),
   λ h. ⊎_elim
       (λ old. Contains-append_left read rows t ((f t).1 (h.0, old)))
       (λ new. Contains-append_right read rows t (Contains-permutation (filter (fits pattern) graph) rows t p (is_kept (fits pattern) graph t new h.0)))
-      (one_passes (fits_one fits patterns t) (fits pattern t) (sym (fits_more patterns pattern t) ∙ h.1)),
+      (or_cases (fits_one fits patterns t) (fits pattern t) (sym (fits_more patterns pattern t) ∙ h.1)),
 ))
 
 -- the same where the patterns are those up to a place

@@ -1,6 +1,6 @@
 -- A binary search among items in order.
-use Rattle.std.proofs.Common.{◌≡◌, ℕ, ◌+◌, ◌<◌, ◌≤◌, ◌↔◌, Bool, true, false, List, length, get_or, Contains, Result, Ok, Err, IfOk, IsTrue, refl, sym, ap, ◌∙◌, arith, is_ok}
-use Rattle.std.proofs.lemmas.Bool.{cases_lt}
+use Rattle.std.proofs.Common.{◌≡◌, ℕ, ◌+◌, ◌<◌, ◌≤◌, ◌↔◌, Bool, true, List, length, get_or, Contains, Result, Ok, Err, IfOk, IsTrue, refl, sym, ap, ◌∙◌, arith, is_ok}
+use Rattle.std.proofs.lemmas.Bool.{cases_lt, false_from_ne_true}
 use Rattle.std.proofs.lemmas.Cmp.{tied_itself}
 use Rattle.std.proofs.lemmas.List.Sorted.{searchable_from_sorted}
 use Rattle.std.proofs.lemmas.Map.Keys.{Less-from_sorted}
@@ -64,18 +64,13 @@ below_first to xs up i j d a b = below_down (to (get_or xs i d)) (to (get_or xs 
 pub not_above_first : {X : Type 0} (to : X → Ordering) (xs : List X) → IsNonDecreasingBy (λ x. ordering_index (to x)) xs → IsPartitionedBy (λ x. is_le (to x)) xs
 not_above_first to xs up i j d a b = not_above_down (to (get_or xs i d)) (to (get_or xs j d)) (up i j d a b)
 
--- a test that answers true nowhere answers false
-refuted : (b : Bool) → (b ≡ true → ⊥) → b ≡ false
-refuted true h = absurd (h refl)
-refuted false h = refl
-
 -- what a search finds says whether the triple is there
 pub search_decides : (xs : List IdTriple) (x : IdTriple) (r : Result ℕ ℕ) → AreOrdered xs → IsSearchInRange r (length xs)
     → IfOk r (HoldsAt (λ y. id_triple_cmp y x ≡ Equal) xs) → IsBinarySearchResult (λ y. id_triple_cmp y x) xs r
     → is_ok r ≡ fits_one id_triple_eq xs x
 search_decides xs x (Ok at) s b h p = sym (found_among id_triple_eq id_triple_exact xs x (at, b, id_triple_one _ _ (h x)))
 search_decides xs x (Err at) s b h p =
-    sym (refuted (fits_one id_triple_eq xs x) (λ t. absent_there id_triple_cmp_total x xs at (p (rising id_triple_cmp_total x xs s))
+    sym (false_from_ne_true (fits_one id_triple_eq xs x) (λ t. absent_there id_triple_cmp_total x xs at (p (rising id_triple_cmp_total x xs s))
     (is_found id_triple_eq id_triple_exact xs x t)))
 
 -- a triple is equal to one of some exactly where it is among them

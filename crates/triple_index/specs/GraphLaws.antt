@@ -1,6 +1,6 @@
 -- What an update makes of a graph: it stays in order, and what it contains.
-use Rattle.std.proofs.Common.{◌≡◌, ◌<◌, ◌⊎◌, ◌↔◌, Bool, true, false, not, ◌||◌, List, [], ◌∷◌, filter, Contains, refl, sym, ap, subst, ◌∙◌, inl, inr, arith}
-use Rattle.std.proofs.lemmas.Bool.{not-true}
+use Rattle.std.proofs.Common.{◌≡◌, ◌<◌, ◌⊎◌, ◌↔◌, Bool, true, false, not, List, [], ◌∷◌, filter, Contains, refl, sym, ap, subst, ◌∙◌, inl, inr, arith}
+use Rattle.std.proofs.lemmas.Bool.{not-true, or_cases, or_right}
 use Rattle.std.proofs.lemmas.Cmp.{tied_itself}
 use Rattle.std.proofs.lemmas.List.Elements.{All-contains, filter_passes}
 use Rattle.std.proofs.lemmas.List.Kept.{IsStrictlySortedBy-filter}
@@ -21,23 +21,13 @@ use Rattle.triple_index.specs.Graphs.{fits_one, without, with_all, after}
 pub none_in : {X : Type 0} (q : X) → Contains [] q → ⊥
 none_in q c = let below : c.0 < 0 = c.1 in omega arith
 
--- of two tests of which one passes, the first passes or the second
-either_passes : (a b : Bool) → (a || b) ≡ true → (a ≡ true) ⊎ (b ≡ true)
-either_passes true b h = inl refl
-either_passes false b h = inr h
-
--- and where the second passes, one of them does
-second_passes : (a b : Bool) → b ≡ true → (a || b) ≡ true
-second_passes true b h = refl
-second_passes false b h = h
-
 module _ {K : Type 0} (E : K → K → Bool) (exact : (a b : K) → Decides (E a b) (a ≡ b)) where
   -- what is in a list is equal to one of its items
   pub found_among : (xs : List K) (q : K) → Contains xs q → fits_one E xs q ≡ true
   found_among [] q c = absurd (none_in q c)
   found_among (x ∷ xs) q c = ⊎_elim
       (λ head. rw ((exact x q).1 head) refl)
-      (λ rest. second_passes (E x q) (fits_one E xs q) (found_among xs q rest))
+      (λ rest. or_right (E x q) (fits_one E xs q) (found_among xs q rest))
       (cons_cases x xs q c)
 
   -- and what is equal to one of its items is in the list
@@ -46,7 +36,7 @@ module _ {K : Type 0} (E : K → K → Bool) (exact : (a b : K) → Decides (E a
   is_found (x ∷ xs) q h = ⊎_elim
       (λ same. subst (Contains (x ∷ xs)) ((exact x q).0 same) (head_in x xs))
       (λ later. tail_in x xs q (is_found xs q later))
-      (either_passes (E x q) (fits_one E xs q) h)
+      (or_cases (E x q) (fits_one E xs q) h)
 
 module _ {K : Type 0} {R : K → K → Ordering} (o : IsTotalOrder R) where
   -- no item is below itself
