@@ -12,7 +12,7 @@ use Rattle.triple_index.specs.Graphs.{fits_one, without}
 use Rattle.triple_index.specs.IdOrder.{id_triple_cmp}
 use Rattle.triple_index.specs.declared.triple.IdTriple.{IdTriple}
 use Rattle.triple_index.specs.declared.triple.IdPattern.{IdPattern}
-use Rattle.triple_index.proofs.Nets.{nil_ordered}
+use Rattle.triple_index.proofs.Nets.{nil_ordered, fits_more}
 use Rattle.pattern_join.specs.Answers.{answer, width, IsOverwide}
 use Rattle.pattern_join.specs.Reading.{IsRead}
 use Rattle.pattern_join.specs.declared.fault.EvalFault.{EvalFault}
@@ -22,7 +22,7 @@ use Rattle.pattern_join.proofs.FilteredPermutations.{IsPermutation-filter}
 -- one more triple of the graph, which fits a template before the new one, or the new one, or none
 triple_more : (fresh : IdTriple → Bool) (a b : Bool) (x : IdTriple) (all old new : List IdTriple) → fresh x ≡ not a
     → IsPermutation all (old ++ filter fresh new)
-    → IsPermutation (cond (a || (b || false)) (x ∷ all) all) (cond a (x ∷ old) old ++ filter fresh (cond b (x ∷ new) new))
+    → IsPermutation (cond (a || b) (x ∷ all) all) (cond a (x ∷ old) old ++ filter fresh (cond b (x ∷ new) new))
 triple_more fresh true true x all old new e p = rw e (IsPermutation-cons x all (old ++ filter fresh new) p)
 triple_more fresh true false x all old new e p = IsPermutation-cons x all (old ++ filter fresh new) p
 triple_more fresh false true x all old new e p = rw e
@@ -39,16 +39,16 @@ template_more templates template (x ∷ graph) =
     let new : List IdTriple = filter (fits template) graph in
     let fresh : IdTriple → Bool = λ t. not (fits_one fits templates t) in
     subst (λ b. IsPermutation (cond b (x ∷ all) all) (cond (fits_one fits templates x) (x ∷ old) old ++ filter fresh (cond (fits template x) (x ∷ new) new)))
-    (sym (list_any-append (λ p. fits p x) templates (template ∷ [])))
+    (sym (fits_more templates template x))
     (triple_more fresh (fits_one fits templates x) (fits template x) x all old new refl (template_more templates template graph))
 
 -- the triples that were found, and the rows of one more template that are new, are the answer with it
-pub found_more : (templates : List IdPattern) (template : IdPattern) (graph found rows : List IdTriple) → IsPermutation (answer templates graph) found
+found_more : (templates : List IdPattern) (template : IdPattern) (graph found rows : List IdTriple) → IsPermutation (answer templates graph) found
     → IsPermutation (filter (fits template) graph) rows → IsPermutation (answer (templates ++ template ∷ []) graph) (found ++ without fits rows templates)
 found_more templates template graph found rows f r = IsPermutation-trans _ _ _ (template_more templates template graph)
     (IsPermutation-append (answer templates graph) found _ _ f (IsPermutation-filter (λ t. not (fits_one fits templates t)) (filter (fits template) graph) rows r))
 
-kept_by : (a b : Bool) (x : IdTriple) (xs ys : List IdTriple) → (a ≡ true → b ≡ true) → length xs ≤ length ys
+kept_by : {X : Type 0} (a b : Bool) (x : X) (xs ys : List X) → (a ≡ true → b ≡ true) → length xs ≤ length ys
     → length (cond a (x ∷ xs) xs) ≤ length (cond b (x ∷ ys) ys)
 kept_by true true x xs ys f h = omega arith
 kept_by true false x xs ys f h = let e : false ≡ true = f refl in cc
@@ -56,17 +56,17 @@ kept_by false true x xs ys f h = omega arith
 kept_by false false x xs ys f h = h
 
 -- a test that passes where another does keeps no fewer items
-keeps_more : (p q : IdTriple → Bool) → ((x : IdTriple) → p x ≡ true → q x ≡ true) → (xs : List IdTriple) → length (filter p xs) ≤ length (filter q xs)
+keeps_more : {X : Type 0} (p q : X → Bool) → ((x : X) → p x ≡ true → q x ≡ true) → (xs : List X) → length (filter p xs) ≤ length (filter q xs)
 keeps_more p q f [] = omega arith
 keeps_more p q f (x ∷ xs) = kept_by (p x) (q x) x (filter p xs) (filter q xs) (f x) (keeps_more p q f xs)
 
 -- the first templates have no wider answer than all
-pub width_within : (at : ℕ) (templates : List IdPattern) (graph : List IdTriple) → width (take at templates) graph ≤ width templates graph
+width_within : (at : ℕ) (templates : List IdPattern) (graph : List IdTriple) → width (take at templates) graph ≤ width templates graph
 width_within at templates graph = keeps_more (fits_one fits (take at templates)) (fits_one fits templates)
     (λ x h. ap (λ ps. fits_one fits ps x) (sym (take-append-drop at templates)) ∙ list_any-append (λ p. fits p x) (take at templates) (drop at templates)
     ∙ or_left (fits_one fits (take at templates) x) (fits_one fits (drop at templates) x) h) graph
 
--- no templates have no answer
+-- nothing answers no templates
 none_answer : (graph : List IdTriple) → answer [] graph ≡ []
 none_answer [] = refl
 none_answer (x ∷ graph) = none_answer graph
