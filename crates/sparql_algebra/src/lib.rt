@@ -7,4 +7,4 @@ mod var;
 
 pub use mapping::{Binding, Mapping};
 pub use rows::IdRows;
-pub use var::Var;
+pub use var::{Var, VarList};

@@ -1,5 +1,6 @@
 ghost use Rattle.std.specs.Prelude.{◌≡◌, ◌↔◌, ◌∷◌, ◌++◌, [], IsTrue, OnOk, OnErr, Contains, length, option_copied, slice_get};
-ghost use Rattle.sparql_algebra.specs.Solutions.{three};
+ghost use Rattle.std.specs.List.{IsDistinct};
+ghost use Rattle.sparql_algebra.specs.Solutions.{solution_eq, three};
 
 use crate::Mapping;
 use indexmap::IndexSet;
@@ -34,7 +35,8 @@ impl IdRows {
 
     /// The number of rows.
     pub fn len(&self) -> usize
-        ensures { result ≡ length self.now }
+        ensures length { result ≡ length self.now }
+        ensures distinct { IsDistinct solution_eq self.now }
     {
         self.rows.len()
     }
@@ -44,6 +46,14 @@ impl IdRows {
         ensures { IsTrue result ↔ (self.now ≡ []) }
     {
         self.rows.is_empty()
+    }
+
+    /// The rows as a slice, in the order in which they were added.
+    pub fn as_slice(&self) -> &[Mapping]
+        ensures rows { result.now ≡ self.now }
+        ensures distinct { IsDistinct solution_eq self.now }
+    {
+        self.rows.as_slice()
     }
 
     /// The row at a place, counted from 0, or `None` where there are not so many.
