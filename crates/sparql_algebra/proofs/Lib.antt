@@ -1,1 +1,2 @@
 mod Bindings
+pub mod SameBindings

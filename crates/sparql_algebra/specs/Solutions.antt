@@ -1,5 +1,7 @@
 -- Solutions by numbers of terms (SPARQL 1.1, section 18.1.8): which variables are bound, each to a number.
 use Rattle.std.specs.Prelude.{◌≡◌, ℕ, Bool, List, [], ◌∷◌, find, Option, Some, None, nat_eq, refl}
+use Rattle.std.specs.List.{AllByRecursion}
+use Rattle.std.specs.List.Sorted.{IsStrictlySortedBy}
 use Rattle.std.specs.Option.{option_map}
 use Rattle.std.specs.Cmp.Lexicographic.{pointwise}
 use Rattle.std.specs.Ordering.{nat_cmp, on, eq_of_both}
@@ -32,6 +34,10 @@ bound solution var = option_map (λ b. b.term) (find (λ b. nat_eq b.var.0 var.0
 -- a solution in which a variable is bound too
 abbrev pub with_binding : List Binding → Var → TermId → List Binding
 with_binding solution var term = inserted var_cmp (record { var = var; term = term }) solution
+
+-- the bindings of each solution stand by rising variable
+abbrev pub AreRising : List (List Binding) → Type 0
+AreRising solutions = AllByRecursion (IsStrictlySortedBy var_cmp) solutions
 
 -- the row of three numbers: the variables 0, 1 and 2 are bound to them
 abbrev pub three : TermId → TermId → TermId → List Binding

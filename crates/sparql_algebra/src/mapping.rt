@@ -4,7 +4,8 @@ ghost use Rattle.std.specs.Hash as fed;
 ghost use Rattle.std.specs.Cmp.{partial_equiv_from_equiv};
 ghost use Rattle.std.specs.Cmp.Rules.{hashing};
 ghost use Rattle.std.proofs.Common.{rules};
-ghost use Rattle.sparql_algebra.specs.Solutions.{binding_eq, solution_eq, bound, with_binding, three};
+ghost use Rattle.std.specs.List.Sorted.{IsStrictlySortedBy};
+ghost use Rattle.sparql_algebra.specs.Solutions.{binding_eq, solution_eq, bound, with_binding, three, var_cmp};
 ghost use Rattle.sparql_algebra.specs.SolutionLaws.{binding_eq_equiv, solution_eq_equiv, solution_input};
 
 use crate::Var;
@@ -94,6 +95,14 @@ impl Mapping {
         let mut bindings = self.bindings.as_slice().iter();
         let found = bindings.find(|binding| binding.var.0 == var.0);
         found.map(|binding| binding.term)
+    }
+
+    /// The bindings, by rising variable.
+    pub fn bindings(&self) -> &[Binding]
+        ensures bindings { result.now ≡ self.now }
+        ensures rising { IsStrictlySortedBy var_cmp self.now }
+    {
+        self.bindings.as_slice()
     }
 
     /// Binds a variable that is unbound.

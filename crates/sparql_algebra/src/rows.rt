@@ -1,6 +1,6 @@
 ghost use Rattle.std.specs.Prelude.{◌≡◌, ◌↔◌, ◌∷◌, ◌++◌, [], IsTrue, OnOk, OnErr, Contains, length, option_copied, slice_get};
 ghost use Rattle.std.specs.List.{IsDistinct};
-ghost use Rattle.sparql_algebra.specs.Solutions.{solution_eq, three};
+ghost use Rattle.sparql_algebra.specs.Solutions.{solution_eq, three, AreRising};
 
 use crate::Mapping;
 use indexmap::IndexSet;
@@ -16,11 +16,14 @@ pub struct IdRows {
 
 impl Model for IdRows {
     ghost use Rattle.std.specs.Prelude.{List};
+    ghost use Rattle.sparql_algebra.specs.Solutions.{AreRising};
     ghost use Rattle.sparql_algebra.specs.declared.mapping.Binding.{Binding};
 
     ghost Value = { List (List Binding) };
 
     ghost view = { λ r. r.rows.keys };
+
+    ghost invariant = { λ r. AreRising r.rows.keys };
 }
 
 impl IdRows {
@@ -52,6 +55,7 @@ impl IdRows {
     pub fn as_slice(&self) -> &[Mapping]
         ensures rows { result.now ≡ self.now }
         ensures distinct { IsDistinct solution_eq self.now }
+        ensures rising { AreRising self.now }
     {
         self.rows.as_slice()
     }
@@ -76,6 +80,8 @@ impl IdRows {
         ensures ok { OnOk result (self.new ≡ self.old ++ row ∷ []) }
         ensures err { OnErr result (self.new ≡ self.old) }
     {
+        // What is added stands by rising variable.
+        row.bindings();
         self.rows.insert(row)?;
         Ok(())
     }
