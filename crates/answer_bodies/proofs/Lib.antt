@@ -5,3 +5,7 @@ pub mod Onces
 pub mod Causes
 pub mod Backs
 pub mod ExampleReadings
+pub mod MappedItems
+pub mod DistinctItems
+pub mod RowTriples
+pub mod RowCells

@@ -5,3 +5,4 @@ pub mod WhyNot
 pub mod Found
 pub mod Laws
 pub mod Examples
+pub mod OfRows

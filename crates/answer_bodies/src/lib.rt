@@ -4,6 +4,7 @@
 mod answer;
 mod laws;
 mod lists;
+mod of_rows;
 mod read;
 mod write;
 

@@ -20,6 +20,17 @@ pub fn ordered<T: Ord + Drop>(items: Items<T>) -> Result<Option<Items<T>>, NoMem
     }
 }
 
+/// The items in their order, where none is doubled.
+pub fn sorted<T: Ord + Drop>(items: Items<T>) -> Result<Items<T>, NoMemory>
+    requires { IsDistinct (eq_by_cmp T.cmp) items }
+    ensures { IfOk result (IsOrdered T.cmp items) }
+{
+    match ordered(items)? {
+        Some(items) => Ok(items),
+        None => unreachable!(),
+    }
+}
+
 /// Whether no text is doubled.
 pub fn are_distinct(texts: &[Text]) -> bool
     ensures { IsTrue result ↔ IsDistinct text_eq texts.now }

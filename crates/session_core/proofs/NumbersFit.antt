@@ -22,7 +22,8 @@ use Rattle.triple_index.specs.declared.triple.IdTriple.{IdTriple}
 use Rattle.triple_index.specs.declared.triple.IdPattern.{IdPattern}
 use Rattle.session_core.specs.Graph.{admits, fits}
 use Rattle.session_core.specs.Numbers.{triple_in, triples_in, number_in, place_of, place_in, pattern_with, pattern_in}
-use Rattle.session_core.proofs.NumbersMeanTerms.{number_found, number_none, triple_terms, means_one}
+use Rattle.answer_bodies.proofs.RowTriples.{triple_terms}
+use Rattle.session_core.proofs.NumbersMeanTerms.{number_found, number_none, means_one}
 use Rattle.session_core.proofs.NumbersCountOnce.{none_in, mapped_sum}
 use Rattle.session_core.proofs.Fitting.{triple_one}
 

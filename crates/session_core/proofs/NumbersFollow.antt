@@ -37,7 +37,8 @@ use Rattle.session_core.specs.Numbers.{Numbers, triple_in, triples_in, graph_of,
 use Rattle.session_core.specs.Requests.{is_no_triple, is_overfull}
 use Rattle.session_core.specs.Prepared.{IsDraft, IsChange, IsUpdateOf}
 use Rattle.session_core.proofs.Fitting.{triple_one}
-use Rattle.session_core.proofs.NumbersMeanTerms.{number_found, number_some, triple_terms, means_still}
+use Rattle.answer_bodies.proofs.RowTriples.{triple_terms}
+use Rattle.session_core.proofs.NumbersMeanTerms.{number_found, number_some, means_still}
 use Rattle.session_core.proofs.NumbersCountOnce.{nil_ordered, none_in, mapped_from, mapped_to, mapped_sum}
 use Rattle.session_core.proofs.NumbersFit.{same_fits_one, as_many, fit_no_more}
 

@@ -12,6 +12,7 @@ use Rattle.m3_terms.specs.declared.table.TermId.{TermId}
 use Rattle.m3_terms.specs.declared.triple.Triple.{Triple}
 use Rattle.m3_intern.proofs.Positions.{get_contained, longer_extends}
 use Rattle.triple_index.specs.declared.triple.IdTriple.{IdTriple}
+use Rattle.answer_bodies.proofs.RowTriples.{triple_terms}
 use Rattle.session_core.specs.Numbers.{triple_in, number_from, number_in}
 
 -- the number that is found has the term, by whether the first term is the one
@@ -70,17 +71,6 @@ number_some terms term c = at (number_in terms term) refl
     at : (found : Option TermId) → number_in terms term ≡ found → (id : TermId) × (found ≡ Some id)
     at None h = absurd (number_none terms term h (get_contained terms term c).0 (get_contained terms term c).1)
     at (Some id) h = (id, refl)
-
--- three terms are those of the triple that they are
-pub triple_terms : (a b c : Option Term) (q : Triple) → triple_with a b c ≡ Some q → (a ≡ Some q.subject) × (b ≡ Some q.predicate) × (c ≡ Some q.object)
-triple_terms None b c q h = cc
-triple_terms (Some (Literal s)) b c q h = cc
-triple_terms (Some (Uri s)) None c q h = cc
-triple_terms (Some (Uri s)) (Some (Literal p)) c q h = cc
-triple_terms (Some (Uri s)) (Some (Uri p)) None q h = cc
-triple_terms (Some (Uri s)) (Some (Uri p)) (Some o) q h =
-    let e = same_Some _ q h in
-    (ap (λ (t : Triple). Some t.subject) e, ap (λ (t : Triple). Some t.predicate) e, ap (λ (t : Triple). Some t.object) e)
 
 -- no two triples of numbers mean one triple, where no term stands twice
 pub means_one : (terms : List Term) → NamesOnce (slice_get terms) → (s t : IdTriple) (q : Triple) → triple_in terms s ≡ Some q → triple_in terms t ≡ Some q → s ≡ t

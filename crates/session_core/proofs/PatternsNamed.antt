@@ -24,17 +24,5 @@ pub named_all : (xs : List Pattern) (at : ℕ) (terms : List Term) → length xs
 named_all xs at terms h e = e ∙ ap terms_of (take_all at xs h)
 
 module _ {X Y : Type 0} (f : X → Option Y) where
-  one : (found : Option Y) → cons_option found [] ≡ option_to_list found
-  one None = refl
-  one (Some y) = refl
-
-  pub mapped_more : (xs : List X) (at : ℕ) (d : X) (old new : List Y) → at < length xs → old ≡ filter_map f (take at xs)
-      → new ≡ old ++ option_to_list (f (get_or xs at d)) → new ≡ filter_map f (take (at + 1) xs)
-  mapped_more xs at d old new h e n =
-      n ∙ ap (λ l. l ++ option_to_list (f (get_or xs at d))) e
-      ∙ ap (λ l. filter_map f (take at xs) ++ l) (sym (one (f (get_or xs at d))))
-      ∙ sym (filter_map-append f (take at xs) (get_or xs at d ∷ []))
-      ∙ ap (filter_map f) (sym (take_more xs at d h))
-
   pub mapped_all : (xs : List X) (at : ℕ) (ys : List Y) → length xs ≤ at → ys ≡ filter_map f (take at xs) → ys ≡ filter_map f xs
   mapped_all xs at ys h e = e ∙ ap (filter_map f) (take_all at xs h)

@@ -1,7 +1,7 @@
 use crate::spelled::{envelope, repeated, spelling};
 use answer_bodies::Answer;
 use m3_terms::Bytes;
-use ssap_items::Params;
+use ssap_items::{Body, Params};
 use std::alloc::Global;
 use std::test::Fail;
 
@@ -44,7 +44,7 @@ const LITERAL: &str =
 const LITERAL_END: &str = "</object></triple></triple_list>";
 
 /// A message whose one parameter has this content.
-fn message(alloc: Global, content: &str) -> Result<Vec<u8>, Fail> {
+pub fn message(alloc: Global, content: &str) -> Result<Vec<u8>, Fail> {
     repeated(
         alloc,
         BEFORE.as_bytes(),
@@ -52,6 +52,16 @@ fn message(alloc: Global, content: &str) -> Result<Vec<u8>, Fail> {
         1,
         BEHIND.as_bytes(),
     )
+}
+
+/// The message with this body in place of that of its parameter.
+pub fn with_body(alloc: Global, bytes: &[u8], body: Body) -> Result<Bytes, Fail> {
+    let mut message = envelope(alloc, bytes)?;
+    let mut params = message.params.into_vec();
+    let param = params.first_mut().ok_or("no parameter")?;
+    param.body = body;
+    message.params = Params::from_vec(params);
+    spelling(alloc, &message)
 }
 
 /// The same message with the answer that it carries, or nothing where it carries none.

@@ -14,6 +14,8 @@ mod machine;
 #[cfg(test)]
 mod reading;
 #[cfg(test)]
+mod rows;
+#[cfg(test)]
 mod shapes;
 #[cfg(test)]
 mod spelled;

@@ -1,7 +1,8 @@
 use Rattle.std.proofs.Common.{◌++◌, ◌∙◌, ap, arith}
 use Rattle.std.specs.Option.{option_to_list}
 use Rattle.session_core.specs.Numbers.{pattern_in}
-use Rattle.session_core.proofs.PatternsNamed.{mapped_more, mapped_all}
+use Rattle.answer_bodies.proofs.MappedItems.{mapped_more}
+use Rattle.session_core.proofs.PatternsNamed.{mapped_all}
 use Rattle.session_core.proofs.numbers.patterns_by.Goals as goal
 
 pub loop-pattern-preserved : goal.loop-pattern-preserved
