@@ -1,9 +1,8 @@
 //! The answers of rows of numbers, by the terms that a table gives them.
 ghost use Rattle.std.specs.Prelude.{◌≡◌, IfOk, length, map, filter_map};
-ghost use Rattle.std.specs.List.{IsDistinct};
-ghost use Rattle.std.specs.Ordering.{eq_by_cmp};
-ghost use Rattle.m3_terms.specs.Order.{triple_cmp, row_cmp};
+ghost use Rattle.m3_terms.specs.Order.{row_cmp};
 ghost use Rattle.m3_terms.specs.TermTable.{NamesOnce};
+ghost use Rattle.answer_bodies.specs.Lists.{IsOrdered};
 ghost use Rattle.answer_bodies.specs.OfRows.{term_in, triple_of_row, row_of, AreTripleRows, AreBoundAmong, AreNamed, IsOfTriples, IsOfRows};
 ghost use Rattle.answer_bodies.specs.Writing.{IsFull};
 
@@ -93,6 +92,22 @@ fn names_once<T: TermTable>(table: &T)
     table.term_of(TermId(0));
 }
 
+// The cells of each row, in their order.
+fn ordered_lines<T: TermTable>(
+    alloc: Global,
+    rows: &IdRows,
+    variables: &VarList,
+    table: &T,
+) -> Result<Rows, NoMemory>
+    requires bound { AreBoundAmong variables.now rows.now }
+    requires named { AreNamed (T.terms table.now) rows.now }
+    ensures { IfOk result (IsOrdered row_cmp (map (row_of (T.terms table.now) variables.now) rows.now)) }
+{
+    names_once(table);
+    let unordered = lines(alloc, rows.as_slice(), variables, table)?;
+    sorted(unordered)
+}
+
 impl Answer {
     /// The answer of rows of three numbers each: the triples of their terms, in order.
     pub fn of_triples<T: TermTable>(
@@ -124,12 +139,9 @@ impl Answer {
         ensures table { IfOk result (IsOfRows (T.terms table.now) columns.now variables.now rows.now) }
         ensures full { IfOk result IsFull }
     {
-        names_once(table);
-        let given = lines(alloc, rows.as_slice(), variables, table)?;
-        let ordered = sorted(given)?;
         Ok(Answer::Table {
             columns: copied(alloc, columns)?,
-            rows: ordered,
+            rows: ordered_lines(alloc, rows, variables, table)?,
         })
     }
 }

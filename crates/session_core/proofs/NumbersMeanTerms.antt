@@ -7,7 +7,6 @@ use Rattle.m3_terms.specs.OrderLaws.{term_exact}
 use Rattle.m3_terms.specs.Pattern.{triple_with}
 use Rattle.m3_terms.specs.TermTable.{NamesOnce, IsIdOf}
 use Rattle.m3_terms.specs.declared.term.Term.{Term}
-use Rattle.m3_terms.specs.declared.term.Term.TheVariants.{Uri, Literal}
 use Rattle.m3_terms.specs.declared.table.TermId.{TermId}
 use Rattle.m3_terms.specs.declared.triple.Triple.{Triple}
 use Rattle.m3_intern.proofs.Positions.{get_contained, longer_extends}

@@ -1,5 +1,5 @@
 -- The terms and the rows of the tests of answers of rows.
-use Rattle.std.specs.Prelude.{◌≡◌, ℕ, List, [], ◌∷◌}
+use Rattle.std.specs.Prelude.{ℕ, List, [], ◌∷◌}
 use Rattle.m3_terms.specs.declared.table.TermId.{TermId}
 use Rattle.m3_terms.specs.declared.term.Term.{Term}
 use Rattle.m3_terms.specs.declared.term.Term.TheVariants.{Uri, Literal}
@@ -11,6 +11,7 @@ use Rattle.sparql_algebra.specs.declared.var.Var.{Var}
 abbrev pub four_terms : List Term
 four_terms = Uri (98 ∷ []) ∷ Uri (97 ∷ []) ∷ Uri (112 ∷ []) ∷ Literal (120 ∷ []) ∷ []
 
+-- the number of a term
 abbrev pub id : ℕ → TermId
 id number = record { 0 = number }
 
