@@ -66,15 +66,12 @@ pub fn with_body(alloc: Global, bytes: &[u8], body: Body) -> Result<Bytes, Fail>
 
 /// The same message with the answer that it carries, or nothing where it carries none.
 fn answered(alloc: Global, bytes: &[u8]) -> Result<Bytes, Fail> {
-    let mut message = envelope(alloc, bytes)?;
-    let mut params = message.params.into_vec();
-    let param = params.first_mut().ok_or("no parameter")?;
+    let message = envelope(alloc, bytes)?;
+    let param = message.params.get(0).ok_or("no parameter")?;
     match Answer::of_body(alloc, &param.body)? {
-        Some(answer) => param.body = answer.to_body(alloc)?,
-        None => return Ok(Bytes::new(alloc)),
+        Some(answer) => with_body(alloc, bytes, answer.to_body(alloc)?),
+        None => Ok(Bytes::new(alloc)),
     }
-    message.params = Params::from_vec(params);
-    spelling(alloc, &message)
 }
 
 #[test]
