@@ -1,3 +1,4 @@
 pub mod FilteredPermutations
 pub mod OrderOnce
 pub mod OneMoreTemplate
+pub mod RowsOnce

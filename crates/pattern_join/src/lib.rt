@@ -3,6 +3,8 @@
 
 mod fault;
 mod matching;
+mod rows;
 
 pub use fault::EvalFault;
 pub use matching::{WIDTH_LIMIT, matches};
+pub use rows::rows_of;
