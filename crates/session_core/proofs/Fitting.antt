@@ -1,5 +1,6 @@
 -- The test of whether a triple fits a pattern, and what an update leaves.
-use Rattle.std.proofs.Common.{◌≡◌, ◌<◌, Bool, true, false, ◌&&◌, ◌||◌, List, [], ◌∷◌, Contains, refl, sym, subst, inl, inr, arith}
+use Rattle.std.proofs.Common.{◌≡◌, ◌<◌, Bool, true, false, ◌&&◌, List, [], ◌∷◌, Contains, refl, sym, subst, ◌∙◌, inl, inr, arith}
+use Rattle.std.proofs.lemmas.Bool.{or_parts, or_from}
 use Rattle.std.specs.Bool.{Decides}
 use Rattle.std.specs.Cmp.{first_so, second_so}
 use Rattle.std.specs.declared.cmp.Ordering.TheVariants.{Equal}
@@ -50,29 +51,22 @@ fits_decides pattern triple =
 abbrev FitsNone : List Pattern → Triple → Type 0
 FitsNone patterns triple = (pattern : Pattern) → Contains patterns pattern → Fits pattern triple → ⊥
 
-neither : (a b : Bool) → (a ≡ true → ⊥) → b ≡ false → (a || b) ≡ false
-neither true b h k = absurd (h refl)
-neither false b h k = k
-
-neither_first : (a b : Bool) → (a || b) ≡ false → a ≡ true → ⊥
-neither_first true b h e = true≢false h
-neither_first false b h e = true≢false (sym e)
-
-neither_second : (a b : Bool) → (a || b) ≡ false → b ≡ false
-neither_second true b h = absurd (true≢false h)
-neither_second false b h = h
+-- a test that cannot pass fails
+pub unlike : (b : Bool) → (b ≡ true → ⊥) → b ≡ false
+unlike true u = absurd (u refl)
+unlike false u = refl
 
 none_fits : (patterns : List Pattern) (triple : Triple) → FitsNone patterns triple → fits_one fits patterns triple ≡ false
 none_fits [] triple n = refl
 none_fits (pattern ∷ patterns) triple n =
-    neither (fits pattern triple) (fits_one fits patterns triple) (λ h. n pattern (head_in pattern patterns) ((fits_decides pattern triple).0 h))
+    or_from (fits pattern triple) (fits_one fits patterns triple) (unlike (fits pattern triple) (λ h. n pattern (head_in pattern patterns) ((fits_decides pattern triple).0 h)))
     (none_fits patterns triple (λ other c. n other (tail_in pattern patterns other c)))
 
 none_fits_of : (patterns : List Pattern) (triple : Triple) → fits_one fits patterns triple ≡ false → FitsNone patterns triple
 none_fits_of [] triple h pattern c f = let below : c.0 < 0 = c.1 in absurd (omega arith)
 none_fits_of (first ∷ patterns) triple h pattern c f = ⊎_elim
-    (λ e. neither_first (fits first triple) (fits_one fits patterns triple) h ((fits_decides first triple).1 (subst (λ p. Fits p triple) (sym e) f)))
-    (λ later. none_fits_of patterns triple (neither_second (fits first triple) (fits_one fits patterns triple) h) pattern later f)
+    (λ e. true≢false (sym ((fits_decides first triple).1 (subst (λ p. Fits p triple) (sym e) f)) ∙ (or_parts (fits first triple) (fits_one fits patterns triple) h).0))
+    (λ later. none_fits_of patterns triple (or_parts (fits first triple) (fits_one fits patterns triple) h).1 pattern later f)
     (cons_cases first patterns pattern c)
 
 pub updates_are_exact : UpdatesAreExact

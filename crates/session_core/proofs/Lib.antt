@@ -13,3 +13,4 @@ pub mod Spelled
 pub mod Passed
 pub mod Growing
 pub mod Sending
+pub mod AnswersAreMeant

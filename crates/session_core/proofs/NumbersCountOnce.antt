@@ -1,6 +1,5 @@
 -- Each triple of numbers means one triple of the graph, so both are counted alike.
-use Rattle.std.proofs.Common.{◌≡◌, ℕ, ◌+◌, ◌<◌, true, false, List, [], ◌∷◌, filter, filter_map, sum_by, Contains, Option, Some, None, IsSome, refl, ap, subst, ◌∙◌, arith}
-use Rattle.std.proofs.lemmas.Cmp.{tied_itself}
+use Rattle.std.proofs.Common.{◌≡◌, ℕ, ◌+◌, true, false, List, [], ◌∷◌, filter, filter_map, sum_by, Contains, Option, Some, None, IsSome, refl, ap, subst, ◌∙◌, arith}
 use Rattle.std.proofs.lemmas.List.Elements.{All-contains}
 use Rattle.std.proofs.lemmas.List.Sums.{sum_by-cons, sum_by-append}
 use Rattle.std.proofs.lemmas.Map.Keys.{sorted_tail}
@@ -16,18 +15,11 @@ use mathlib.Core.Logic.{⊎_elim}
 use Rattle.m3_terms.specs.Inserted.{inserted}
 use Rattle.m3_terms.specs.InsertedLaws.{inserted_has, cons_cases, head_in, tail_in}
 use Rattle.triple_index.specs.Graphs.{with_all}
+use Rattle.triple_index.specs.GraphLaws.{none_in, not_below_itself}
 
 pub nil_ordered : {K : Type 0} (R : K → K → Ordering) → IsStrictlySortedBy R []
 unfolding IsStrictlySortedBy
 nil_ordered R = tt
-
--- nothing is in the empty list
-pub none_in : {X : Type 0} (q : X) → Contains [] q → ⊥
-none_in q c = let below : c.0 < 0 = c.1 in omega arith
-
--- no key is below itself
-not_below_itself : {K : Type 0} {R : K → K → Ordering} → IsTotalOrder R → (x : K) → R x x ≡ Less → ⊥
-not_below_itself o x h = let e = tied_itself o x in cc
 
 module _ {X Y : Type 0} (f : X → Option Y) where
   -- what is mapped comes from an item

@@ -17,6 +17,7 @@ use Rattle.m3_terms.specs.declared.pattern.Pattern.{Pattern}
 use Rattle.triple_index.specs.Changes.{AreOrdered}
 use Rattle.triple_index.specs.Fits.{fits as fits_ids, admits as admits_id}
 use Rattle.triple_index.specs.Graphs.{fits_one, with_all, count_fitting}
+use Rattle.triple_index.specs.GraphLaws.{none_in}
 use Rattle.triple_index.specs.IdOrderLaws.{id_triple_cmp_total}
 use Rattle.triple_index.specs.declared.triple.IdTriple.{IdTriple}
 use Rattle.triple_index.specs.declared.triple.IdPattern.{IdPattern}
@@ -24,8 +25,8 @@ use Rattle.session_core.specs.Graph.{admits, fits}
 use Rattle.session_core.specs.Numbers.{triple_in, triples_in, number_in, place_of, place_in, pattern_with, pattern_in}
 use Rattle.answer_bodies.proofs.RowTriples.{triple_terms}
 use Rattle.session_core.proofs.NumbersMeanTerms.{number_found, number_none, means_one}
-use Rattle.session_core.proofs.NumbersCountOnce.{none_in, mapped_sum}
-use Rattle.session_core.proofs.Fitting.{triple_one}
+use Rattle.session_core.proofs.NumbersCountOnce.{mapped_sum}
+use Rattle.session_core.proofs.Fitting.{triple_one, unlike}
 
 -- two tests of which each passes where the other does are one
 one_test : (a b : Bool) → (a ≡ true → b ≡ true) → (b ≡ true → a ≡ true) → a ≡ b
@@ -56,10 +57,6 @@ module _ (terms : List Term) (once : NamesOnce (slice_get terms)) where
   none_admits Any n term h k = cc
   none_admits (Is wanted) n term h k = at (number_in terms wanted) refl h
     where
-      unlike : (b : Bool) → (b ≡ true → ⊥) → b ≡ false
-      unlike true u = absurd (u refl)
-      unlike false u = refl
-
       at : (found : Option TermId) → number_in terms wanted ≡ found → place_of found ≡ None → term_eq wanted term ≡ false
       at None e p = unlike (term_eq wanted term) (λ same. number_none terms wanted e n.0 (k ∙ ap Some (sym ((term_exact wanted term).0 same))))
       at (Some id) e p = cc
@@ -127,7 +124,7 @@ module _ (terms : List Term) (once : NamesOnce (slice_get terms)) where
 
   module _ (triples : List IdTriple) (ordered : AreOrdered triples) (named : (t : IdTriple) → Contains triples t → IsSome (triple_in terms t)) where
     -- what passes a test among the triples is as much as what passes it among those that they mean
-    counted : (test : IdTriple → Bool) (means : Triple → Bool) → ((t : IdTriple) (q : Triple) → triple_in terms t ≡ Some q → test t ≡ means q)
+    pub counted : (test : IdTriple → Bool) (means : Triple → Bool) → ((t : IdTriple) (q : Triple) → triple_in terms t ≡ Some q → test t ≡ means q)
         → length (filter means (with_all triple_cmp [] (triples_in terms triples))) ≡ length (filter test triples)
     counted test means same =
         let sum = mapped_sum triple_cmp_total triple_one (λ q. cond (means q) 1 0) id_triple_cmp_total (triple_in terms) (λ t. cond (test t) 1 0)

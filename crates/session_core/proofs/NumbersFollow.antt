@@ -1,6 +1,6 @@
 -- What becomes of numbers in an update means what becomes of their graph.
-use Rattle.std.proofs.Common.{◌≡◌, ℕ, ◌+◌, ◌-◌, ◌≤◌, ◌<◌, ◌⊎◌, ◌↔◌, Bool, true, false, ◌||◌, not, nat_lt, IsTrue, is_none, List, [], ◌∷◌, ◌++◌, length, filter, filter_map, sum_by, Contains, Option, Some, None, IsSome, Result, Ok, Err, IfOk, min, ◌^◌, slice_get, refl, sym, ap, subst, ◌∙◌, inl, inr, arith}
-use Rattle.std.proofs.lemmas.Bool.{cases_lt, lt-ltb, le-ltb}
+use Rattle.std.proofs.Common.{◌≡◌, ℕ, ◌+◌, ◌-◌, ◌≤◌, ◌<◌, ◌⊎◌, ◌↔◌, Bool, true, false, not, nat_lt, IsTrue, is_none, List, [], ◌∷◌, ◌++◌, length, filter, filter_map, sum_by, Contains, Option, Some, None, IsSome, Result, Ok, Err, IfOk, min, ◌^◌, slice_get, refl, sym, ap, subst, ◌∙◌, inl, inr, arith}
+use Rattle.std.proofs.lemmas.Bool.{cases_lt, lt-ltb, le-ltb, or_left, or_right, or_parts, or_from}
 use Rattle.std.proofs.lemmas.Option.{same_Some}
 use Rattle.std.proofs.lemmas.List.Elements.{All-contains, filter_passes, Contains-append_left, Contains-append_right}
 use Rattle.std.proofs.lemmas.List.Filters.{length-filter_both}
@@ -27,7 +27,7 @@ use Rattle.m3_intern.proofs.Positions.{named_once, contained_at}
 use Rattle.triple_index.specs.Changes.{Net, IsNet, AreOrdered, changed}
 use Rattle.triple_index.specs.Fits.{fits as fits_ids}
 use Rattle.triple_index.specs.Graphs.{fits_one, with_all, after, count_fitting}
-use Rattle.triple_index.specs.GraphLaws.{found_among, is_found, sorted_same, with_all_has, with_all_ordered, after_has, after_ordered}
+use Rattle.triple_index.specs.GraphLaws.{none_in, found_among, is_found, sorted_same, with_all_has, with_all_ordered, after_has, after_ordered}
 use Rattle.triple_index.specs.IdOrder.{id_triple_cmp, id_triple_eq}
 use Rattle.triple_index.specs.IdOrderLaws.{id_triple_cmp_total, id_triple_one, id_triple_exact}
 use Rattle.triple_index.specs.declared.triple.IdTriple.{IdTriple}
@@ -39,7 +39,7 @@ use Rattle.session_core.specs.Prepared.{IsDraft, IsChange, IsUpdateOf}
 use Rattle.session_core.proofs.Fitting.{triple_one}
 use Rattle.answer_bodies.proofs.RowTriples.{triple_terms}
 use Rattle.session_core.proofs.NumbersMeanTerms.{number_found, number_some, means_still}
-use Rattle.session_core.proofs.NumbersCountOnce.{nil_ordered, none_in, mapped_from, mapped_to, mapped_sum}
+use Rattle.session_core.proofs.NumbersCountOnce.{nil_ordered, mapped_from, mapped_to, mapped_sum}
 use Rattle.session_core.proofs.NumbersFit.{same_fits_one, as_many, fit_no_more}
 
 no_terms : IsDistinct term_eq []
@@ -60,18 +60,18 @@ unfolding graph_of
 nothing_meant numbers e = ap (λ triples. with_all triple_cmp [] (triples_in numbers.terms triples)) e
 
 -- the graph is in order
-graph_ordered : (numbers : Numbers) → IsStrictlySortedBy triple_cmp (graph_of numbers)
+pub graph_ordered : (numbers : Numbers) → IsStrictlySortedBy triple_cmp (graph_of numbers)
 unfolding graph_of
 graph_ordered numbers = with_all_ordered triple_cmp_total triple_one [] (triples_in numbers.terms numbers.triples) (nil_ordered triple_cmp)
 
 -- what is in the graph is meant by a triple of numbers
-graph_from : (numbers : Numbers) (q : Triple) → Contains (graph_of numbers) q → (t : IdTriple) × Contains numbers.triples t × (triple_in numbers.terms t ≡ Some q)
+pub graph_from : (numbers : Numbers) (q : Triple) → Contains (graph_of numbers) q → (t : IdTriple) × Contains numbers.triples t × (triple_in numbers.terms t ≡ Some q)
 unfolding graph_of
 graph_from numbers q c = mapped_from (triple_in numbers.terms) numbers.triples q
     (⊎_elim (λ none. absurd (none_in q none)) (λ d. d) ((with_all_has triple_cmp_total triple_one [] (triples_in numbers.terms numbers.triples) q).0 c))
 
 -- and what a triple of numbers means is in the graph
-graph_has : (numbers : Numbers) (t : IdTriple) (q : Triple) → Contains numbers.triples t → triple_in numbers.terms t ≡ Some q → Contains (graph_of numbers) q
+pub graph_has : (numbers : Numbers) (t : IdTriple) (q : Triple) → Contains numbers.triples t → triple_in numbers.terms t ≡ Some q → Contains (graph_of numbers) q
 unfolding graph_of
 graph_has numbers t q c h =
     (with_all_has triple_cmp_total triple_one [] (triples_in numbers.terms numbers.triples) q).1
@@ -83,7 +83,7 @@ unfolding graph_of
 graph_length numbers are = as_many numbers.terms (named_once numbers.terms are.once) numbers.triples are.ordered are.named
 
 -- the meaning of what means a triple
-meant : (terms : List Term) (t : IdTriple) → IsSome (triple_in terms t) → (q : Triple) × (triple_in terms t ≡ Some q)
+pub meant : (terms : List Term) (t : IdTriple) → IsSome (triple_in terms t) → (q : Triple) × (triple_in terms t ≡ Some q)
 meant terms t some = at (triple_in terms t) some refl
   where
     at : (found : Option Triple) → IsSome found → triple_in terms t ≡ found → (q : Triple) × (triple_in terms t ≡ Some q)
@@ -181,15 +181,11 @@ module _ (terms : List Term) where
       let t = ids_some p.0 q p.2 (λ term d. there term (terms_there patterns p.0 term p.1 d)) in
       (t.0, mapped_to (ids_of terms) patterns p.0 t.0 p.1 t.1, ids_mean p.0 t.0 t.1 ∙ p.2)
 
-  neither : (a b : Bool) → (a || b) ≡ false → (a ≡ false) × (b ≡ false)
-  neither true b h = absurd (true≢false h)
-  neither false b h = (refl, h)
-
   -- patterns that can be inserted are triples
   each_triple : (patterns : List Pattern) → list_any is_no_triple patterns ≡ false → (pattern : Pattern) → Contains patterns pattern → IsSome (triple_of pattern)
   each_triple [] h pattern c = absurd (none_in pattern c)
   each_triple (first ∷ patterns) h pattern c =
-      let n = neither (is_no_triple first) (list_any is_no_triple patterns) h in
+      let n = or_parts (is_no_triple first) (list_any is_no_triple patterns) h in
       ⊎_elim
       (λ e. subst (λ p. IsSome (triple_of p)) e (at (triple_of first) n.0))
       (λ rest. each_triple patterns n.1 pattern rest)
@@ -356,22 +352,10 @@ changed_length triples change s r i net =
     omega (arith, longer, both, ap length removed)
 
 -- an update that passes a limit, of triples or of named terms
-either_first : (a b : Bool) → a ≡ true → (a || b) ≡ true
-either_first true b h = refl
-either_first false b h = cc
-
-either_second : (a b : Bool) → b ≡ true → (a || b) ≡ true
-either_second true b h = refl
-either_second false b h = h
-
-both_not : (a b : Bool) → a ≡ false → b ≡ false → (a || b) ≡ false
-both_not true b h k = cc
-both_not false b h k = k
-
 pub over_terms : (graph : List Triple) (named : List Term) (remove insert : List Pattern) → 268435456 < bytes_of_terms (with_named named (terms_of insert))
     → is_overfull graph named remove insert ≡ true
 over_terms graph named remove insert h =
-    either_second (nat_lt 262144 (length (graph_after graph remove insert))) _ (lt-ltb 268435456 (bytes_of_terms (with_named named (terms_of insert))) h)
+    or_right (nat_lt 262144 (length (graph_after graph remove insert))) _ (lt-ltb 268435456 (bytes_of_terms (with_named named (terms_of insert))) h)
 
 -- ---- what is prepared, and limits
 
@@ -392,7 +376,7 @@ module _ (old : Numbers) (more : List Term) (remove insert : List Pattern) (chan
   -- an update that would leave too many triples passes the limit
   pub over_triples : 262144 < length (changed old.triples change) → is_overfull (graph_of old) old.terms remove insert ≡ true
   over_triples h =
-      either_first (nat_lt 262144 (length (graph_after (graph_of old) remove insert))) _
+      or_left (nat_lt 262144 (length (graph_after (graph_of old) remove insert))) _
       (lt-ltb 262144 (length (graph_after (graph_of old) remove insert)) (omega (arith, long, h)))
 
   -- and another is ready to be made
@@ -401,7 +385,7 @@ module _ (old : Numbers) (more : List Term) (remove insert : List Pattern) (chan
     can = record { within = draft.within; net = is.net; numbers = numbers };
     graph = graph;
     named = named;
-    within = both_not (nat_lt 262144 (length (graph_after (graph_of old) remove insert))) _
+    within = or_from (nat_lt 262144 (length (graph_after (graph_of old) remove insert))) _
         (le-ltb 262144 (length (graph_after (graph_of old) remove insert)) (omega (arith, long, h)))
         (le-ltb 268435456 (bytes_of_terms (with_named old.terms (terms_of insert))) (subst (λ l. bytes_of_terms l ≤ 268435456) named draft.within));
   }
@@ -418,38 +402,38 @@ draft_is kept old insert wanted more e limit w n is there = record {
 }
 
 -- the patterns of an update by the numbers of a table
-pub record AreTranslated (old : Numbers) (more : List Term) (remove insert : List Pattern) (gone : List IdPattern) (come : List IdTriple) : Type 0 where
-  pub removed : gone ≡ filter_map (pattern_in (old.terms ++ more)) remove
-  pub inserted : come ≡ filter_map (ids_of (old.terms ++ more)) insert
+pub record AreTranslated (old : Numbers) (more : List Term) (remove insert : List Pattern) (goes : List IdPattern) (comes : List IdTriple) : Type 0 where
+  pub removed : goes ≡ filter_map (pattern_in (old.terms ++ more)) remove
+  pub inserted : comes ≡ filter_map (ids_of (old.terms ++ more)) insert
 
-pub translated : (old : Numbers) (more table : List Term) (remove insert removes inserts : List Pattern) (gone : List IdPattern) (come : List IdTriple)
-    → table ≡ old.terms ++ more → removes ≡ remove → inserts ≡ insert → gone ≡ filter_map (pattern_in table) removes → come ≡ filter_map (ids_of table) inserts
-    → AreTranslated old more remove insert gone come
-translated old more table remove insert removes inserts gone come t r i g c = record {
+pub translated : (old : Numbers) (more table : List Term) (remove insert removes inserts : List Pattern) (goes : List IdPattern) (comes : List IdTriple)
+    → table ≡ old.terms ++ more → removes ≡ remove → inserts ≡ insert → goes ≡ filter_map (pattern_in table) removes → comes ≡ filter_map (ids_of table) inserts
+    → AreTranslated old more remove insert goes comes
+translated old more table remove insert removes inserts goes comes t r i g c = record {
   removed = g ∙ ap (λ l. filter_map (pattern_in l) removes) t ∙ ap (filter_map (pattern_in (old.terms ++ more))) r;
   inserted = c ∙ ap (λ l. filter_map (ids_of l) inserts) t ∙ ap (filter_map (ids_of (old.terms ++ more))) i;
 }
 
 -- the net change that an index makes of them is that of the update
-pub change_is : (old : Numbers) (more : List Term) (remove insert : List Pattern) (gone : List IdPattern) (come triples : List IdTriple) (r : Result Net NoMemory)
-    → AreTranslated old more remove insert gone come → triples ≡ old.triples → IfOk r (IsNet triples)
-    → IfOk r (λ change. changed triples change ≡ after id_triple_cmp fits_ids triples gone come) → IfOk r (IsChange old more remove insert)
-change_is old more remove insert gone come triples (Ok change) t e n a = record {
+pub change_is : (old : Numbers) (more : List Term) (remove insert : List Pattern) (goes : List IdPattern) (comes triples : List IdTriple) (r : Result Net NoMemory)
+    → AreTranslated old more remove insert goes comes → triples ≡ old.triples → IfOk r (IsNet triples)
+    → IfOk r (λ change. changed triples change ≡ after id_triple_cmp fits_ids triples goes comes) → IfOk r (IsChange old more remove insert)
+change_is old more remove insert goes comes triples (Ok change) t e n a = record {
   net = subst (λ l. IsNet l change) e n;
-  makes = ap (λ l. changed l change) (sym e) ∙ a ∙ ap (λ l. after id_triple_cmp fits_ids l gone come) e
-      ∙ ap (λ l. after id_triple_cmp fits_ids old.triples l come) t.removed
+  makes = ap (λ l. changed l change) (sym e) ∙ a ∙ ap (λ l. after id_triple_cmp fits_ids l goes comes) e
+      ∙ ap (λ l. after id_triple_cmp fits_ids old.triples l comes) t.removed
       ∙ ap (after id_triple_cmp fits_ids old.triples (filter_map (pattern_in (old.terms ++ more)) remove)) t.inserted;
 }
-change_is old more remove insert gone come triples (Err refused) t e n a = tt
+change_is old more remove insert goes comes triples (Err refused) t e n a = tt
 
 -- and it reads no more rows than the update may
-pub change_reads : (old : Numbers) (more : List Term) (remove insert : List Pattern) (gone : List IdPattern) (come triples : List IdTriple) (before now : ℕ)
-    → AreNumbers old → IsDistinct term_eq (old.terms ++ more) → AreTranslated old more remove insert gone come → triples ≡ old.triples
-    → now ≤ before + count_fitting fits_ids triples gone → now ≤ before + count_fitting fits (graph_of old) remove
-change_reads old more remove insert gone come triples before now are once t e h =
+pub change_reads : (old : Numbers) (more : List Term) (remove insert : List Pattern) (goes : List IdPattern) (comes triples : List IdTriple) (before now : ℕ)
+    → AreNumbers old → IsDistinct term_eq (old.terms ++ more) → AreTranslated old more remove insert goes comes → triples ≡ old.triples
+    → now ≤ before + count_fitting fits_ids triples goes → now ≤ before + count_fitting fits (graph_of old) remove
+change_reads old more remove insert goes comes triples before now are once t e h =
     let most = reads_no_more old more remove are once in
-    let same : count_fitting fits_ids triples gone ≡ count_fitting fits_ids old.triples (filter_map (pattern_in (old.terms ++ more)) remove) =
-    ap (λ l. count_fitting fits_ids l gone) e ∙ ap (count_fitting fits_ids old.triples) t.removed in
+    let same : count_fitting fits_ids triples goes ≡ count_fitting fits_ids old.triples (filter_map (pattern_in (old.terms ++ more)) remove) =
+    ap (λ l. count_fitting fits_ids l goes) e ∙ ap (count_fitting fits_ids old.triples) t.removed in
     omega (arith, most, same, h)
 
 -- the test on the lengths of a net change says whether the graph would have too many triples

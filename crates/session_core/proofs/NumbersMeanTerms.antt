@@ -1,5 +1,5 @@
 -- Numbers and the terms that they mean in a list.
-use Rattle.std.proofs.Common.{◌≡◌, ◌≢◌, ℕ, zero, suc, ◌+◌, Bool, true, false, List, [], ◌∷◌, ◌++◌, Contains, Option, Some, None, slice_get, if◌then◌else◌, refl, sym, ap, ◌∙◌, arith}
+use Rattle.std.proofs.Common.{◌≡◌, ◌≢◌, ℕ, zero, suc, ◌+◌, Bool, true, false, List, [], ◌∷◌, ◌++◌, Contains, Option, Some, None, slice_get, if◌then◌else◌, refl, sym, ap, subst, ◌∙◌, arith}
 use Rattle.std.proofs.lemmas.Option.{same_Some}
 use mathlib.Core.Bool.{true≢false}
 use Rattle.m3_terms.specs.Order.{term_eq}
@@ -62,6 +62,13 @@ number_is terms term answer once is = at answer (number_in terms term) refl is
     at None (Some id) h is = absurd (is id.0 (number_found terms term id h))
     at (Some id) None h is = absurd (number_none terms term h id.0 is)
     at (Some id) (Some other) h is = ap (λ n. Some (record { 0 = n })) (once id.0 other.0 term is (number_found terms term other h))
+
+-- the same of a table whose terms stand in the list
+pub number_listed : (table : ℕ → Option Term) (terms : List Term) (term : Term) (answer : Option TermId) → ((n : ℕ) → table n ≡ slice_get terms n)
+    → NamesOnce table → IsIdOf table term answer → answer ≡ number_in terms term
+number_listed table terms term answer same once is =
+    let e : table ≡ slice_get terms = λ i n. same n i in
+    number_is terms term answer (subst NamesOnce e once) (subst (λ t. IsIdOf t term answer) e is)
 
 -- a term of the list has a number
 pub number_some : (terms : List Term) (term : Term) → Contains terms term → (id : TermId) × (number_in terms term ≡ Some id)

@@ -47,11 +47,11 @@ abbrev pub with_named : List Term → List Term → List Term
 with_named named terms = named ++ fresh named terms
 
 -- the lamp has a state
-abbrev lamp_state : Term → Triple
+abbrev pub lamp_state : Term → Triple
 lamp_state state = record { subject = Uri (codes "lamp"); predicate = Uri (codes "state"); object = state }
 
 -- the state of the lamp
-abbrev lamp_state_is : Slot → Pattern
+abbrev pub lamp_state_is : Slot → Pattern
 lamp_state_is slot = record { subject = Is (Uri (codes "lamp")); predicate = Is (Uri (codes "state")); object = slot }
 
 -- an update that replaces the state of the lamp removes first, so it may insert what fits

@@ -1,4 +1,5 @@
 pub mod Graph
+pub mod Answers
 pub mod Numbers
 pub mod Space
 pub mod Requests

@@ -1,17 +1,26 @@
 -- What is prepared of an update before it is made.
-use Rattle.std.specs.Prelude.{◌≡◌, ◌≤◌, false, List, ◌++◌, filter_map, Contains}
+use Rattle.std.specs.Prelude.{◌≡◌, ◌≤◌, ℕ, false, List, ◌++◌, length, filter_map, Contains, Some, None}
 use Rattle.std.specs.List.{IsDistinct}
-use Rattle.m3_terms.specs.Order.{term_eq}
+use Rattle.std.specs.List.Sorted.{IsPermutation, IsStrictlySortedBy}
+use Rattle.m3_terms.specs.Order.{term_eq, triple_cmp}
+use Rattle.m3_terms.specs.declared.triple.Triple.{Triple}
 use Rattle.m3_terms.specs.declared.term.Term.{Term}
 use Rattle.m3_terms.specs.declared.pattern.Pattern.{Pattern}
 use Rattle.m3_intern.specs.Interned.{bytes_of_terms, fresh}
-use Rattle.triple_index.specs.Changes.{Net, IsNet, changed}
+use Rattle.triple_index.specs.Changes.{Net, AreOrdered, IsNet, changed}
 use Rattle.triple_index.specs.Fits.{fits as fits_ids}
 use Rattle.triple_index.specs.Graphs.{after}
 use Rattle.triple_index.specs.IdOrder.{id_triple_cmp}
 use Rattle.session_core.specs.Graph.{graph_after, terms_of, with_named}
-use Rattle.session_core.specs.Numbers.{Numbers, graph_of, ids_of, pattern_in, made, CanBeMade}
-use Rattle.session_core.specs.Requests.{is_overfull}
+use Rattle.triple_index.specs.declared.triple.IdTriple.{IdTriple}
+use Rattle.ssap_items.specs.declared.heads.Heads.{Heads}
+use Rattle.answer_bodies.specs.declared.answer.Answer.{Answer}
+use Rattle.answer_bodies.specs.declared.answer.Answer.TheVariants.{Triples}
+use Rattle.ssap_shape.specs.declared.status.Status.TheVariants.{Success}
+use Rattle.ssap_shape.specs.declared.reply.Confirm.{Confirm}
+use Rattle.session_core.specs.Answers.{fitting}
+use Rattle.session_core.specs.Numbers.{Numbers, triples_in, graph_of, ids_of, pattern_in, made, CanBeMade}
+use Rattle.session_core.specs.Requests.{is_overfull, confirm_bytes}
 
 -- these are the new terms of patterns that are inserted, within the limit of named terms
 pub record IsDraft (old : Numbers) (insert : List Pattern) (terms : List Term) : Type 0 where
@@ -32,3 +41,30 @@ pub record IsUpdateOf (old : Numbers) (remove insert : List Pattern) (terms : Li
   pub graph : graph_of (made old terms change) ≡ graph_after (graph_of old) remove insert
   pub named : old.terms ++ terms ≡ with_named old.terms (terms_of insert)
   pub within : is_overfull (graph_of old) old.terms remove insert ≡ false
+
+-- triples in order that means what triples of numbers mean: the answer of them
+pub record IsMeant (terms : List Term) (triples : List IdTriple) (answer : Answer) : Type 0 where
+  pub meant : List Triple
+  pub is : answer ≡ Triples meant
+  pub rises : IsStrictlySortedBy triple_cmp meant
+  pub same : IsPermutation (triples_in terms triples) meant
+
+-- the answer is that of templates, and no more than an answer may have
+pub record IsAnswer (graph : List Triple) (templates : List Pattern) (answer : Answer) : Type 0 where
+  pub is : answer ≡ Triples (fitting graph templates)
+  pub few : length (fitting graph templates) ≤ 65536
+
+-- triples of numbers are of the graph and in order, and what they mean is the answer to templates
+pub record AreMatching (numbers : Numbers) (templates : List Pattern) (triples : List IdTriple) : Type 0 where
+  pub ordered : AreOrdered triples
+  pub there : (t : IdTriple) → Contains triples t → Contains numbers.triples t
+  pub answers : (reply : Answer) → IsMeant numbers.terms triples reply → IsAnswer (graph_of numbers) templates reply
+
+-- the confirm of success that brings an answer
+abbrev pub answering : Heads → Answer → Confirm
+answering heads answer = record { heads = heads; status = Success; subscription = None; answer = Some answer }
+
+-- this is a confirm as it is sent, no longer than a message may be
+pub record IsShortMessage (confirm : Confirm) (message : List ℕ) : Type 0 where
+  pub is : message ≡ confirm_bytes confirm
+  pub short : length (confirm_bytes confirm) ≤ 4194304

@@ -10,7 +10,7 @@ use Rattle.ssap_shape.specs.declared.request.Request.{Request}
 use Rattle.session_core.specs.Space.{Space}
 use Rattle.session_core.specs.Requests.{over, done_with, due_with}
 use Rattle.session_core.specs.Steps.{queue}
-use Rattle.session_core.specs.declared.space.TheConstants.{NODE_LIMIT, TRIPLE_LIMIT, TERMS_LIMIT}
+use Rattle.session_core.specs.declared.space.TheConstants.{NODE_LIMIT, TRIPLE_LIMIT, TERMS_LIMIT, CONFIRM_LIMIT}
 
 -- the space after a request with this status, whose confirm is sent on its link
 abbrev pub decided : Space → ℕ → Request → Status → Space
@@ -43,3 +43,7 @@ triple_limit = refl
 -- the most that the named terms may cost
 terms_limit : TERMS_LIMIT ≡ 268435456
 terms_limit = refl
+
+-- the most bytes of a confirm that brings an answer
+confirm_limit : CONFIRM_LIMIT ≡ 4194304
+confirm_limit = refl

@@ -15,11 +15,14 @@ use Rattle.ssap_shape.specs.Replies.{confirm_of}
 use Rattle.ssap_shape.specs.declared.status.Status.{Status}
 use Rattle.ssap_shape.specs.declared.status.Status.TheVariants.{Success, AccessDenied, OutOfResources, NotImplemented, Request as BadRequest, Incomplete, Syntax}
 use Rattle.ssap_shape.specs.declared.reply.Confirm.{Confirm}
+use Rattle.ssap_shape.specs.declared.request.Wish.{Wish}
+use Rattle.ssap_shape.specs.declared.request.Wish.TheVariants.{Templates, Sparql}
 use Rattle.ssap_shape.specs.declared.request.Ask.{Ask}
 use Rattle.ssap_shape.specs.declared.request.Ask.TheVariants.{Join, Leave, Update, Query, Subscribe, Unsubscribe}
 use Rattle.ssap_shape.specs.declared.request.Request.{Request}
 use Rattle.session_core.specs.Space.{Space, is_member, with_node, without_node, updated}
 use Rattle.session_core.specs.Graph.{graph_after, terms_of, with_named}
+use Rattle.session_core.specs.Answers.{answer_to, width_of}
 
 -- a message is for this space
 abbrev pub is_for : Space → Heads → Bool
@@ -34,12 +37,17 @@ is_stranger space heads (Query wish) = not (is_member space heads.node_id)
 is_stranger space heads (Subscribe wish) = not (is_member space heads.node_id)
 is_stranger space heads (Unsubscribe text) = not (is_member space heads.node_id)
 
--- what is asked for is built: to join, to leave and to update
+-- a wish is built: templates, and no query text yet
+abbrev pub is_answered : Wish → Bool
+is_answered (Templates templates) = true
+is_answered (Sparql text) = false
+
+-- what is asked for is built: to join, to leave, to update, and to query by templates
 abbrev pub is_built : Ask → Bool
 is_built Join = true
 is_built Leave = true
 is_built (Update remove insert confirm) = true
-is_built (Query wish) = false
+is_built (Query wish) = is_answered wish
 is_built (Subscribe wish) = false
 is_built (Unsubscribe text) = false
 
@@ -62,12 +70,46 @@ abbrev pub is_overfull : List Triple → List Term → List Pattern → List Pat
 is_overfull graph named remove insert =
     nat_lt 262144 (length (graph_after graph remove insert)) || nat_lt 268435456 (bytes_of_terms (with_named named (terms_of insert)))
 
--- what is asked for would pass a limit: of 4,096 joined nodes, or one of an update
+-- the number of the subscription that a request makes where it is granted: no request makes one yet
+abbrev pub subscription_for : Space → Ask → Option ℕ
+subscription_for space Join = None
+subscription_for space Leave = None
+subscription_for space (Update remove insert confirm) = None
+subscription_for space (Query wish) = None
+subscription_for space (Subscribe wish) = None
+subscription_for space (Unsubscribe text) = None
+
+-- the answer that a request gets where it is granted: a query gets that of its wish
+abbrev pub answer_for : Space → Ask → Option Answer
+answer_for space Join = None
+answer_for space Leave = None
+answer_for space (Update remove insert confirm) = None
+answer_for space (Query wish) = answer_to space.graph wish
+answer_for space (Subscribe wish) = None
+answer_for space (Unsubscribe text) = None
+
+-- a confirm as it is sent
+abbrev pub confirm_bytes : Confirm → List ℕ
+confirm_bytes confirm = canonical (confirm_of confirm)
+
+-- the confirm that tells this status alone
+abbrev pub bare : Heads → Status → Confirm
+bare heads status = record { heads = heads; status = status; subscription = None; answer = None }
+
+-- the confirm of success, with what the request gets
+abbrev pub granting : Space → Heads → Ask → Confirm
+granting space heads ask = record { heads = heads; status = Success; subscription = subscription_for space ask; answer = answer_for space ask }
+
+-- a query would pass a limit: its answer has more than 65,536 rows, or its confirm more than 4,194,304 bytes
+abbrev pub is_wide : Space → Heads → Wish → Bool
+is_wide space heads wish = nat_lt 65536 (width_of space.graph wish) || nat_lt 4194304 (length (confirm_bytes (granting space heads (Query wish))))
+
+-- what is asked for would pass a limit: of 4,096 joined nodes, or one of an update or of a query
 abbrev pub is_over : Space → Heads → Ask → Bool
 is_over space heads Join = not (is_member space heads.node_id) && nat_le 4096 (length space.joined)
 is_over space heads Leave = false
 is_over space heads (Update remove insert confirm) = is_overfull space.graph space.named remove insert
-is_over space heads (Query wish) = false
+is_over space heads (Query wish) = is_wide space heads wish
 is_over space heads (Subscribe wish) = false
 is_over space heads (Unsubscribe text) = false
 
@@ -152,36 +194,6 @@ is_silent (Update remove insert confirm) = not confirm
 is_silent (Query wish) = false
 is_silent (Subscribe wish) = false
 is_silent (Unsubscribe text) = false
-
--- the number of the subscription that a request makes where it is granted: no request makes one yet
-abbrev pub subscription_for : Space → Ask → Option ℕ
-subscription_for space Join = None
-subscription_for space Leave = None
-subscription_for space (Update remove insert confirm) = None
-subscription_for space (Query wish) = None
-subscription_for space (Subscribe wish) = None
-subscription_for space (Unsubscribe text) = None
-
--- the answer that a request gets where it is granted: no request is answered yet
-abbrev pub answer_for : Space → Ask → Option Answer
-answer_for space Join = None
-answer_for space Leave = None
-answer_for space (Update remove insert confirm) = None
-answer_for space (Query wish) = None
-answer_for space (Subscribe wish) = None
-answer_for space (Unsubscribe text) = None
-
--- a confirm as it is sent
-abbrev pub confirm_bytes : Confirm → List ℕ
-confirm_bytes confirm = canonical (confirm_of confirm)
-
--- the confirm that tells this status alone
-abbrev pub bare : Heads → Status → Confirm
-bare heads status = record { heads = heads; status = status; subscription = None; answer = None }
-
--- the confirm of success, with what the request gets
-abbrev pub granting : Space → Heads → Ask → Confirm
-granting space heads ask = record { heads = heads; status = Success; subscription = subscription_for space ask; answer = answer_for space ask }
 
 -- the confirm that tells this status alone, as it is sent
 abbrev pub confirm : Heads → Status → List ℕ

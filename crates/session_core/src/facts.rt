@@ -1,5 +1,5 @@
 //! The facts of a space: the triples of its graph by numbers, and the terms that have them.
-ghost use Rattle.std.specs.Prelude.{◌≡◌, ◌+◌, ◌≤◌, ◌<◌, ◌↔◌, [], false, IsTrue, IfOk, OnOk, OnErr, MatchOption, Contains, length};
+ghost use Rattle.std.specs.Prelude.{◌≡◌, ◌+◌, ◌≤◌, ◌<◌, ◌↔◌, [], false, IsTrue, IfOk, IfErr, OnOk, OnErr, MatchOption, Contains, length};
 ghost use Rattle.std.specs.List.{list_any};
 ghost use Rattle.m3_intern.specs.Interned.{bytes_of_terms};
 ghost use Rattle.triple_index.specs.Changes.{IsNet, changed};
@@ -7,16 +7,22 @@ ghost use Rattle.triple_index.specs.Graphs.{count_fitting};
 ghost use Rattle.session_core.specs.Graph.{fits, terms_of as terms_in, with_named};
 ghost use Rattle.session_core.specs.Numbers.{graph_of, number_in, ids_of_triple, made, CanBeMade};
 ghost use Rattle.session_core.specs.Requests.{is_no_triple, is_overfull};
-ghost use Rattle.session_core.specs.Prepared.{IsUpdateOf, IsDraft, IsChange};
+ghost use Rattle.session_core.specs.Prepared.{IsUpdateOf, IsDraft, IsChange, IsAnswer, IsMeant, AreMatching};
+ghost use Rattle.pattern_join.specs.Answers.{IsOverwide};
+ghost use Rattle.session_core.specs.Answers.{fitting};
+ghost use Rattle.triple_index.specs.Changes.{AreOrdered};
+ghost use Rattle.triple_index.specs.declared.triple.IdTriple.{IdTriple as SeenTriple};
 
 use crate::numbers::{patterns_by, terms_of, triples_by};
 use crate::space::TRIPLE_LIMIT;
+use answer_bodies::Answer;
 use m3_intern::{Draft, InternFault, Interner};
 use m3_terms::{NoMemory, Patterns, Steps, Term, TermId, TermTable, Triple};
+use pattern_join::{EvalFault, matches, rows_of};
 use std::alloc::Global;
 use std::marker::Model;
 use std::sync::ledger::Ledger;
-use triple_index::{Change, IdTriple, Index};
+use triple_index::{Change, IdTriple, IdTriples, Index, View};
 
 /// The triples of a graph by the numbers of their terms. A term that was named once keeps its number.
 #[derive(Drop)]
@@ -151,6 +157,50 @@ impl Facts {
             return Ok(None);
         }
         Ok(Some(Update { draft, change }))
+    }
+
+    // The triples of the graph that fit a template, by their numbers and in their order.
+    fn matching<L: Ledger>(
+        &self,
+        alloc: Global,
+        templates: &Patterns,
+        steps: &mut Steps<L>,
+    ) -> Result<IdTriples, EvalFault>
+        ensures matching { IfOk result (AreMatching self.now templates.now) }
+        ensures wide { IfErr result (IsOverwide (length (fitting (graph_of self.now) templates.now))) }
+        ensures reads { steps.new ≤ steps.old + count_fitting fits (graph_of self.now) templates.now }
+    {
+        let ids = patterns_by(alloc, &self.terms, templates.as_slice())?;
+        let view: View<'_, L> = View::plain(&self.index);
+        matches(alloc, &view, &ids, steps)
+    }
+
+    /// The triples that fit a template, in their order, or `None` where they are more than an answer may have. It reads no
+    /// more rows than the triples that fit, summed over the templates.
+    pub fn find<L: Ledger>(
+        &self,
+        alloc: Global,
+        templates: &Patterns,
+        steps: &mut Steps<L>,
+    ) -> Result<Option<Answer>, NoMemory>
+        ensures answer { IfOk result (λ found. MatchOption found (65536 < length (fitting (graph_of self.now) templates.now)) (IsAnswer (graph_of self.now) templates.now)) }
+        ensures reads { steps.new ≤ steps.old + count_fitting fits (graph_of self.now) templates.now }
+    {
+        match self.matching(alloc, templates, steps) {
+            Ok(triples) => Ok(Some(self.answer(alloc, &triples)?)),
+            Err(EvalFault::TooWide) => Ok(None),
+            Err(EvalFault::NoMemory) => Err(NoMemory),
+        }
+    }
+
+    // The answer that triples of the graph are, by their numbers.
+    fn answer(&self, alloc: Global, triples: &IdTriples) -> Result<Answer, NoMemory>
+        requires ordered { AreOrdered triples.now }
+        requires there { (t : SeenTriple) → Contains triples.now t → Contains self.now.triples t }
+        ensures { IfOk result (IsMeant self.now.terms triples.now) }
+    {
+        let rows = rows_of(alloc, triples)?;
+        Answer::of_triples(alloc, &rows, &self.terms)
     }
 
     /// Makes an update, whole or not at all.

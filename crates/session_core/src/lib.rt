@@ -8,6 +8,7 @@ mod join;
 mod laws;
 mod leave;
 mod numbers;
+mod query;
 mod ranks;
 mod ring;
 mod space;
@@ -21,4 +22,4 @@ pub use laws::{
 };
 pub use link_table::LinkState;
 pub use ring::Ring;
-pub use space::{Core, NODE_LIMIT, TERMS_LIMIT, TRIPLE_LIMIT};
+pub use space::{CONFIRM_LIMIT, Core, NODE_LIMIT, TERMS_LIMIT, TRIPLE_LIMIT};

@@ -1,13 +1,35 @@
 //! Patterns by the numbers of their terms.
-ghost use Rattle.std.specs.Prelude.{◌≡◌, ◌++◌, filter_map, IfOk, OnOk};
+ghost use Rattle.std.specs.Prelude.{◌≡◌, ◌++◌, ℕ, List, filter_map, slice_get, refl, IfOk, OnOk};
+ghost use Rattle.m3_terms.specs.declared.term.Term.{Term};
 ghost use Rattle.std.specs.Option.{option_to_list};
 ghost use Rattle.session_core.specs.Graph.{terms_of_slot, terms_of_pattern, terms_of as terms_in};
 ghost use Rattle.session_core.specs.Numbers.{number_of_slot, ids_of, place_in, pattern_in};
 
-use m3_intern::Both;
+use m3_intern::{Both, Interner};
 use m3_terms::{Items, NoMemory, Pattern, Slot, TermId, TermList, TermTable};
 use std::alloc::Global;
 use triple_index::{IdPattern, IdPatterns, IdTriple, IdTriples};
+
+/// A table whose terms stand in a list, each under the number of those before it.
+pub(crate) trait Listed: TermTable {
+    /// The terms in the order of their numbers.
+    ghost listed: { Self → List Term };
+
+    /// A number has the term at its position in the list.
+    ghost by_position: { (table : Self) (n : ℕ) → Self.terms table n ≡ slice_get (listed table) n };
+}
+
+impl<'a> Listed for Both<'a> {
+    ghost listed = { λ both. both };
+
+    ghost by_position = { λ both n. refl };
+}
+
+impl Listed for Interner {
+    ghost listed = { λ kept. kept.terms };
+
+    ghost by_position = { λ kept n. refl };
+}
 
 // Appends an item, where there is one.
 fn push_some<T: Drop>(items: &mut Items<T>, item: Option<T>) -> Result<(), NoMemory>
@@ -47,8 +69,8 @@ pub(crate) fn terms_of(alloc: Global, patterns: &[Pattern]) -> Result<TermList, 
     Ok(terms)
 }
 
-fn number(table: &Both<'_>, slot: &Slot) -> Option<TermId>
-    ensures { result ≡ number_of_slot table.now slot.now }
+fn number<T: Listed>(table: &T, slot: &Slot) -> Option<TermId>
+    ensures { result ≡ number_of_slot (T.listed table.now) slot.now }
 {
     match slot {
         Slot::Any => None,
@@ -56,8 +78,8 @@ fn number(table: &Both<'_>, slot: &Slot) -> Option<TermId>
     }
 }
 
-fn triple_by(table: &Both<'_>, pattern: &Pattern) -> Option<IdTriple>
-    ensures { result ≡ ids_of table.now pattern.now }
+fn triple_by<T: Listed>(table: &T, pattern: &Pattern) -> Option<IdTriple>
+    ensures { result ≡ ids_of (T.listed table.now) pattern.now }
 {
     Some(IdTriple {
         subject: number(table, &pattern.subject)?,
@@ -67,12 +89,12 @@ fn triple_by(table: &Both<'_>, pattern: &Pattern) -> Option<IdTriple>
 }
 
 /// The triples that patterns are, by the numbers of a table.
-pub(crate) fn triples_by(
+pub(crate) fn triples_by<T: Listed>(
     alloc: Global,
-    table: &Both<'_>,
+    table: &T,
     patterns: &[Pattern],
 ) -> Result<IdTriples, NoMemory>
-    ensures { IfOk result (λ triples. triples ≡ filter_map (ids_of table.now) patterns.now) }
+    ensures { IfOk result (λ triples. triples ≡ filter_map (ids_of (T.listed table.now)) patterns.now) }
 {
     let mut triples = IdTriples::new(alloc);
     for pattern in patterns {
@@ -81,8 +103,8 @@ pub(crate) fn triples_by(
     Ok(triples)
 }
 
-fn place(table: &Both<'_>, slot: &Slot) -> Option<Option<TermId>>
-    ensures { result ≡ place_in table.now slot.now }
+fn place<T: Listed>(table: &T, slot: &Slot) -> Option<Option<TermId>>
+    ensures { result ≡ place_in (T.listed table.now) slot.now }
 {
     match slot {
         Slot::Any => Some(None),
@@ -90,8 +112,8 @@ fn place(table: &Both<'_>, slot: &Slot) -> Option<Option<TermId>>
     }
 }
 
-fn pattern_by(table: &Both<'_>, pattern: &Pattern) -> Option<IdPattern>
-    ensures { result ≡ pattern_in table.now pattern.now }
+fn pattern_by<T: Listed>(table: &T, pattern: &Pattern) -> Option<IdPattern>
+    ensures { result ≡ pattern_in (T.listed table.now) pattern.now }
 {
     Some(IdPattern {
         subject: place(table, &pattern.subject)?,
@@ -101,12 +123,12 @@ fn pattern_by(table: &Both<'_>, pattern: &Pattern) -> Option<IdPattern>
 }
 
 /// Patterns by the numbers of a table. One with a term that has no number fits nothing and is left out.
-pub(crate) fn patterns_by(
+pub(crate) fn patterns_by<T: Listed>(
     alloc: Global,
-    table: &Both<'_>,
+    table: &T,
     patterns: &[Pattern],
 ) -> Result<IdPatterns, NoMemory>
-    ensures { IfOk result (λ ids. ids ≡ filter_map (pattern_in table.now) patterns.now) }
+    ensures { IfOk result (λ ids. ids ≡ filter_map (pattern_in (T.listed table.now)) patterns.now) }
 {
     let mut ids = IdPatterns::new(alloc);
     for pattern in patterns {

@@ -3,7 +3,7 @@ ghost use Rattle.std.specs.Prelude.{◌≡◌, ◌+◌, ◌≤◌, ◌<◌, ◌^
 ghost use Rattle.std.specs.List.{list_any};
 ghost use Rattle.ssap_shape.specs.declared.request.Arrived.TheVariants as arrived;
 ghost use Rattle.session_core.specs.Space.{is_member};
-ghost use Rattle.session_core.specs.Requests.{is_for as is_for_it, is_stranger as stranger, is_built as built, is_no_triple as no_triple, is_unfit as unfit, wrong_status as wrong, first_of, early_ranks};
+ghost use Rattle.session_core.specs.Requests.{is_for as is_for_it, is_stranger as stranger, is_built as built, is_answered as answered, is_no_triple as no_triple, is_unfit as unfit, wrong_status as wrong, first_of, early_ranks};
 ghost use Rattle.session_core.specs.Steps.{delivered};
 ghost use Rattle.session_core.specs.Ranks.{asking, passed};
 ghost use Rattle.session_core.specs.Reads.{ask_cost};
@@ -11,16 +11,26 @@ ghost use Rattle.session_core.specs.Reads.{ask_cost};
 use crate::store::Store;
 use m3_terms::{NoMemory, Pattern, Patterns, Slot, Steps, Term, Text};
 use ssap_items::Heads;
-use ssap_shape::{Ask, Request, Status};
+use ssap_shape::{Ask, Request, Status, Wish};
 use std::alloc::Global;
 use std::sync::ledger::Ledger;
+
+fn is_answered(wish: &Wish) -> bool
+    ensures { result ≡ answered wish.now }
+{
+    match wish {
+        Wish::Templates(_) => true,
+        Wish::Sparql(_) => false,
+    }
+}
 
 fn is_built(ask: &Ask) -> bool
     ensures { result ≡ built ask.now }
 {
     match ask {
         Ask::Join | Ask::Leave | Ask::Update { .. } => true,
-        Ask::Query(_) | Ask::Subscribe(_) | Ask::Unsubscribe(_) => false,
+        Ask::Query(wish) => is_answered(wish),
+        Ask::Subscribe(_) | Ask::Unsubscribe(_) => false,
     }
 }
 
@@ -148,7 +158,8 @@ impl Store {
                 insert,
                 confirm,
             } => self.update(alloc, link, heads, &remove, &insert, confirm, steps),
-            Ask::Query(_) | Ask::Subscribe(_) | Ask::Unsubscribe(_) => unreachable!(),
+            Ask::Query(wish) => self.query(alloc, link, heads, &wish, steps),
+            Ask::Subscribe(_) | Ask::Unsubscribe(_) => unreachable!(),
         }
     }
 }

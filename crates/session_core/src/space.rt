@@ -24,6 +24,9 @@ pub const TRIPLE_LIMIT: usize = 262_144;
 /// The most that the terms of all accepted updates may cost: each counts once, as the bytes of its text and 32.
 pub const TERMS_LIMIT: u64 = 268_435_456;
 
+/// The most bytes of a confirm that brings an answer.
+pub const CONFIRM_LIMIT: u64 = 4_194_304;
+
 /// A space, which does one call at a time.
 #[derive(Drop)]
 pub struct Core {

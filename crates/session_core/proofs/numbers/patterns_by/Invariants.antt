@@ -3,4 +3,4 @@ use Rattle.session_core.specs.Numbers.{pattern_in}
 use Rattle.session_core.proofs.numbers.patterns_by.Given as goal
 
 abbrev pub invariant-loop-pattern : goal.invariant-loop-pattern
-invariant-loop-pattern l = l.ids ≡ filter_map (pattern_in l.table) (take l.pattern-index l.patterns)
+invariant-loop-pattern g l = l.ids ≡ filter_map (pattern_in (g.T.Listed.listed l.table)) (take l.pattern-index l.patterns)
