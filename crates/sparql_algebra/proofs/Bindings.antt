@@ -1,5 +1,5 @@
 -- Bindings by rising variable, and one that is put among them.
-use Rattle.std.proofs.Common.{◌≡◌, ◌∙◌, ℕ, suc, ◌+◌, Bool, true, false, cond, List, [], ◌∷◌, ◌++◌, filter, find, nat_eq, nat_lt, None, Some, refl, sym, ap, subst, arith, ◌≤◌, ◌<◌, length, ◌⊎◌, inl, inr}
+use Rattle.std.proofs.Common.{◌≡◌, ◌∙◌, ℕ, suc, ◌+◌, Bool, true, false, cond, List, [], ◌∷◌, filter, find, nat_eq, nat_lt, None, Some, refl, sym, ap, subst, arith, ◌≤◌, ◌<◌, length, ◌⊎◌, inl, inr}
 use Rattle.std.proofs.lemmas.Bool.{eqb-false, cases_lt, lt-ltb, le-ltb}
 use Rattle.std.specs.Cmp.{nat_cmp_is}
 use Rattle.m3_terms.specs.Inserted.{inserted}
@@ -15,6 +15,8 @@ use Rattle.sparql_algebra.specs.declared.var.Var.{Var}
 use Rattle.sparql_algebra.specs.declared.mapping.Binding.{Binding}
 use Rattle.sparql_algebra.specs.Solutions.{var_cmp, bound, with_binding, three}
 use Rattle.sparql_algebra.specs.SolutionLaws.{var_cmp_total}
+use Rattle.sparql_algebra.specs.TermSolutions.{id_var}
+use Rattle.sparql_algebra.proofs.Lookups.{rising_inserted}
 
 pub nil_rising : IsStrictlySortedBy var_cmp []
 unfolding IsStrictlySortedBy
@@ -70,55 +72,6 @@ put_there (b ∷ bs) var term s e =
     let rest = lacks_at b bs var.0 (nat_eq b.var.0 var.0) refl e in
     put_at b (record { var = var; term = term }) bs s.0 lacked.0 (put_there bs var term s.1 rest.1) (cases_lt b.var.0 var.0)
 
--- what holds of each of some bindings holds of each that a test keeps: one step
-all_kept_at : (P : Binding → Type 0) (b : Binding) (bs : List Binding) (kept : Bool) → P b → AllByRecursion P bs → AllByRecursion P (cond kept (b ∷ bs) bs)
-all_kept_at P b bs true h a = (h, a)
-all_kept_at P b bs false h a = a
-
--- what holds of each of some bindings holds of each that a test keeps
-all_kept : (P : Binding → Type 0) (test : Binding → Bool) (bs : List Binding) → AllByRecursion P bs → AllByRecursion P (filter test bs)
-all_kept P test [] a = tt
-all_kept P test (b ∷ bs) a = all_kept_at P b (filter test bs) (test b) a.0 (all_kept P test bs a.1)
-
--- what holds of each of two lists holds of each of both
-all_both : (P : Binding → Type 0) (xs ys : List Binding) → AllByRecursion P xs → AllByRecursion P ys → AllByRecursion P (xs ++ ys)
-all_both P [] ys a b = b
-all_both P (x ∷ xs) ys a b = (a.0, all_both P xs ys a.1 b)
-
--- what holds of a binding and of each of some holds of each once it is put among them
-all_put : (P : Binding → Type 0) (new : Binding) (bs : List Binding) → P new → AllByRecursion P bs → AllByRecursion P (inserted var_cmp new bs)
-all_put P new bs h a = all_both P (filter (λ y. is_lt (var_cmp y new)) bs) (new ∷ filter (λ y. is_gt (var_cmp y new)) bs)
-    (all_kept P (λ y. is_lt (var_cmp y new)) bs a) (h, all_kept P (λ y. is_gt (var_cmp y new)) bs a)
-
--- bindings by rising variable stay so when one is put among them: one step
-rising_at : (b new : Binding) (bs : List Binding) → AllByRecursion (λ y. var_cmp b y ≡ Less) bs → IsStrictlySortedBy var_cmp bs → (b.var.0 ≡ new.var.0 → ⊥)
-    → IsStrictlySortedBy var_cmp (inserted var_cmp new bs) → (b.var.0 < new.var.0) ⊎ (new.var.0 ≤ b.var.0)
-    → IsStrictlySortedBy var_cmp (inserted var_cmp new (b ∷ bs))
-unfolding IsStrictlySortedBy
-rising_at b new bs s t n e (inl low) =
-    let less : nat_cmp b.var.0 new.var.0 ≡ Less = sym (nat_cmp_is b.var.0 new.var.0 Less low) in
-    let whole : inserted var_cmp new (b ∷ bs) ≡ b ∷ inserted var_cmp new bs = rw less refl in
-    let sorted : IsStrictlySortedBy var_cmp (b ∷ inserted var_cmp new bs) = (all_put (λ y. var_cmp b y ≡ Less) new bs less s, e) in
-    subst (IsStrictlySortedBy var_cmp) (sym whole) sorted
-rising_at b new bs s t n e (inr high) =
-    let over : new.var.0 < b.var.0 = omega (arith, n) in
-    let less : var_cmp new b ≡ Less = sym (nat_cmp_is new.var.0 b.var.0 Less over) in
-    let all : AllByRecursion (λ y. var_cmp new y ≡ Less) (b ∷ bs) = (less, all_above var_cmp_total new b bs less s) in
-    let none : filter (λ y. is_lt (var_cmp y new)) (b ∷ bs) ≡ [] = none_below var_cmp_total new (b ∷ bs) all in
-    let each : filter (λ y. is_gt (var_cmp y new)) (b ∷ bs) ≡ b ∷ bs = each_above var_cmp_total new (b ∷ bs) all in
-    let whole : inserted var_cmp new (b ∷ bs) ≡ new ∷ b ∷ bs = rw (none, each) refl in
-    let sorted : IsStrictlySortedBy var_cmp (new ∷ b ∷ bs) = (all, (s, t)) in
-    subst (IsStrictlySortedBy var_cmp) (sym whole) sorted
-
--- bindings by rising variable stay so when one is put among them
-pub put_rising : (bs : List Binding) (var : Var) (term : TermId) → IsStrictlySortedBy var_cmp bs → bound bs var ≡ None
-    → IsStrictlySortedBy var_cmp (with_binding bs var term)
-unfolding IsStrictlySortedBy
-put_rising [] var term s e = (tt, tt)
-put_rising (b ∷ bs) var term s e =
-    let rest = lacks_at b bs var.0 (nat_eq b.var.0 var.0) refl e in
-    rising_at b (record { var = var; term = term }) bs s.0 s.1 rest.0 (put_rising bs var term s.1 rest.1) (cases_lt b.var.0 var.0)
-
 -- the bindings of three variables stand by rising variable
 pub three_rising : (subject predicate object : TermId) → IsStrictlySortedBy var_cmp (three subject predicate object)
 unfolding IsStrictlySortedBy
@@ -139,5 +92,5 @@ bound_there items value slice new var term at i l a s e n =
     n ∙ ap (λ k. insert items k (record { var = var; term = term })) place ∙ put_there items var term s none
     in (
       same ∙ ap (λ bs. with_binding bs var term) i,
-      subst (IsStrictlySortedBy var_cmp) (sym same) (put_rising items var term s none),
+      subst (IsStrictlySortedBy var_cmp) (sym same) (rising_inserted id_var (record { var = var; term = term }) items s),
     )

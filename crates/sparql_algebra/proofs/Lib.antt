@@ -1,2 +1,18 @@
 mod Bindings
 pub mod SameBindings
+pub mod Lookups
+mod Agreeing
+pub mod Naming
+mod Forms
+mod Within
+mod Gathered
+mod Merges
+mod Grouping
+mod Removed
+pub mod Limits
+pub mod ListMembers
+pub mod ExtendedSolutions
+pub mod ListedPatterns
+pub mod ListedSolutions
+pub mod ListedWidths
+pub mod ListedAnswers

@@ -1,5 +1,5 @@
 -- Solutions by numbers of terms (SPARQL 1.1, section 18.1.8): which variables are bound, each to a number.
-use Rattle.std.specs.Prelude.{◌≡◌, ℕ, Bool, List, [], ◌∷◌, find, Option, Some, None, nat_eq, refl}
+use Rattle.std.specs.Prelude.{◌≡◌, ◌≢◌, ◌↔◌, Contains, ℕ, Bool, List, [], ◌∷◌, find, Option, Some, None, nat_eq, refl}
 use Rattle.std.specs.List.{AllByRecursion}
 use Rattle.std.specs.List.Sorted.{IsStrictlySortedBy}
 use Rattle.std.specs.Option.{option_map}
@@ -43,6 +43,10 @@ AreRising solutions = AllByRecursion (IsStrictlySortedBy var_cmp) solutions
 abbrev pub three : TermId → TermId → TermId → List Binding
 three subject predicate object =
     record { var = record { 0 = 0 }; term = subject } ∷ record { var = record { 0 = 1 }; term = predicate } ∷ record { var = record { 0 = 2 }; term = object } ∷ []
+
+-- a row has been taken out: the rows are the others
+abbrev pub IsWithoutRow : List (List Binding) → List Binding → List (List Binding) → Type 0
+IsWithoutRow old row new = (other : List Binding) → Contains new other ↔ (Contains old other × (row ≢ other))
 
 -- variable 1 comes between variables 0 and 2
 example_between : with_binding (binding 0 7 ∷ binding 2 9 ∷ []) (record { 0 = 1 }) (record { 0 = 8 }) ≡ binding 0 7 ∷ binding 1 8 ∷ binding 2 9 ∷ []

@@ -6,9 +6,12 @@ ghost use Rattle.std.specs.Cmp.Rules.{hashing};
 ghost use Rattle.std.proofs.Common.{rules};
 ghost use Rattle.std.specs.List.Sorted.{IsStrictlySortedBy};
 ghost use Rattle.sparql_algebra.specs.Solutions.{binding_eq, solution_eq, bound, with_binding, three, var_cmp};
+ghost use Rattle.sparql_algebra.specs.Merged.{IsRising};
+ghost use Rattle.sparql_algebra.specs.TermSolutions.{id_var};
+ghost use Rattle.sparql_algebra.specs.Projected.{is_column, projected};
 ghost use Rattle.sparql_algebra.specs.SolutionLaws.{binding_eq_equiv, solution_eq_equiv, solution_input};
 
-use crate::Var;
+use crate::{Var, VarList};
 use m3_terms::{NoMemory, TermId};
 use smallvec::SmallVec;
 use std::alloc::Global;
@@ -112,8 +115,49 @@ impl Mapping {
         ensures ok { OnOk result (self.new ≡ with_binding self.old var term) }
         ensures err { OnErr result (self.new ≡ self.old) }
     {
-        let at = place(self.bindings.as_slice(), var);
-        self.bindings.insert(at, Binding { var, term })?;
+        self.put(Binding { var, term })
+    }
+
+    /// The bindings by rising variable.
+    pub fn as_slice(&self) -> &[Binding]
+        ensures bindings { result.now ≡ self.now }
+        ensures rising { IsRising id_var self.now }
+    {
+        self.bindings.as_slice()
+    }
+
+    /// An equal mapping, in memory of its own.
+    pub fn copy(&self) -> Result<Mapping, NoMemory>
+        ensures equal { IfOk result (λ row. row ≡ self.now) }
+        ensures rising { IsRising id_var self.now }
+    {
+        let alloc = *self.bindings.allocator();
+        Ok(Mapping {
+            bindings: SmallVec::from_slice(alloc, self.bindings.as_slice())?,
+        })
+    }
+
+    /// The mapping that binds those of the columns that this one binds, each to its number.
+    pub fn project(&self, columns: &VarList) -> Result<Mapping, NoMemory>
+        ensures { IfOk result (λ row. row ≡ projected columns.now self.now) }
+    {
+        let mut bindings = SmallVec::new(*self.bindings.allocator());
+        for binding in self.bindings.as_slice() {
+            if is_among(columns, binding.var) {
+                bindings.push(*binding)?;
+            }
+        }
+        Ok(Mapping { bindings })
+    }
+
+    // Puts the binding of a variable that is unbound among the others.
+    pub(crate) fn put(&mut self, binding: Binding) -> Result<(), NoMemory>
+        requires { bound self.old binding.var ≡ None }
+        ensures ok { OnOk result (self.new ≡ with_binding self.old binding.var binding.term) }
+        ensures err { OnErr result (self.new ≡ self.old) }
+    {
+        let at = place(self.bindings.as_slice(), binding.var);
+        self.bindings.insert(at, binding)?;
         Ok(())
     }
 }
@@ -170,6 +214,13 @@ impl Hash for Mapping {
     fn hash<H: Hasher>(&self, state: &mut H) {
         self.bindings.as_slice().hash(state);
     }
+}
+
+// Whether a variable is one of some columns.
+fn is_among(columns: &VarList, var: Var) -> bool
+    ensures { result ≡ is_column columns.now var }
+{
+    columns.as_slice().iter().any(|column| column.0 == var.0)
 }
 
 // How many of the bindings come before that of a variable.

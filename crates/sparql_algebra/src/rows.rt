@@ -1,6 +1,6 @@
-ghost use Rattle.std.specs.Prelude.{◌≡◌, ◌↔◌, ◌∷◌, ◌++◌, [], IsTrue, OnOk, OnErr, Contains, length, option_copied, slice_get};
+ghost use Rattle.std.specs.Prelude.{◌≡◌, ◌↔◌, ◌+◌, ◌∷◌, ◌++◌, [], IsTrue, OnOk, OnErr, Contains, length, option_copied, slice_get};
 ghost use Rattle.std.specs.List.{IsDistinct};
-ghost use Rattle.sparql_algebra.specs.Solutions.{solution_eq, three, AreRising};
+ghost use Rattle.sparql_algebra.specs.Solutions.{solution_eq, three, AreRising, IsWithoutRow};
 
 use crate::Mapping;
 use indexmap::IndexSet;
@@ -84,6 +84,15 @@ impl IdRows {
         row.bindings();
         self.rows.insert(row)?;
         Ok(())
+    }
+
+    /// Takes out a row that is here. It takes no memory. The last row comes to its place.
+    pub fn remove(&mut self, row: &Mapping)
+        requires { Contains self.old row.now }
+        ensures rows { IsWithoutRow self.old row.now self.new }
+        ensures fewer { length self.new + 1 ≡ length self.old }
+    {
+        self.rows.swap_remove(row);
     }
 
     /// Appends the row whose variables 0, 1 and 2 have these numbers. It asks that this row isn't here.
