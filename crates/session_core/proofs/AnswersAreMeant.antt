@@ -1,12 +1,14 @@
 -- The triples of numbers that fit templates mean the answer to the templates.
-use Rattle.std.proofs.Common.{◌≡◌, ℕ, ◌+◌, ◌≤◌, true, List, [], ◌∷◌, length, map, filter, filter_map, Contains, Result, Ok, Err, IfOk, IfErr, IsSome, slice_get, refl, sym, ap, subst, ◌∙◌, arith}
+use Rattle.std.proofs.Common.{◌≡◌, ℕ, ◌+◌, ◌≤◌, true, List, [], ◌∷◌, length, map, filter, filter_map, Contains, Result, Ok, Err, IfOk, IfErr, Option, Some, IsSome, slice_get, refl, sym, ap, subst, ◌∙◌, inr, arith}
 use Rattle.std.proofs.lemmas.List.Elements.{All-contains, filter_passes}
 use Rattle.std.proofs.lemmas.List.Kept.{IsStrictlySortedBy-filter}
 use Rattle.std.proofs.lemmas.List.Sorted.{Contains-permutation, IsPermutation-sym}
 use Rattle.std.specs.List.{cons_option}
 use Rattle.std.specs.List.Sorted.{IsPermutation, IsStrictlySortedBy}
+use Rattle.std.specs.Option.{option_map_or}
+use mathlib.Core.Logic.{⊎_elim}
 use Rattle.m3_terms.specs.InsertedLaws.{head_in, tail_in, was_there, is_kept}
-use Rattle.m3_terms.specs.Order.{triple_cmp}
+use Rattle.m3_terms.specs.Order.{text_of, triple_cmp}
 use Rattle.m3_terms.specs.OrderLaws.{triple_cmp_total}
 use Rattle.m3_terms.specs.declared.memory.NoMemory.{NoMemory}
 use Rattle.m3_terms.specs.declared.term.Term.{Term}
@@ -15,8 +17,8 @@ use Rattle.m3_terms.specs.declared.pattern.Pattern.{Pattern}
 use Rattle.m3_intern.proofs.Positions.{named_once}
 use Rattle.triple_index.specs.Changes.{AreOrdered}
 use Rattle.triple_index.specs.Fits.{fits as fits_ids}
-use Rattle.triple_index.specs.Graphs.{fits_one, count_fitting}
-use Rattle.triple_index.specs.GraphLaws.{sorted_same}
+use Rattle.triple_index.specs.Graphs.{fits_one, with_all, count_fitting}
+use Rattle.triple_index.specs.GraphLaws.{none_in, sorted_same, with_all_has, with_all_ordered}
 use Rattle.triple_index.specs.IdOrder.{id_triple_cmp}
 use Rattle.triple_index.specs.declared.triple.IdTriple.{IdTriple}
 use Rattle.triple_index.specs.declared.triple.IdPattern.{IdPattern}
@@ -27,12 +29,14 @@ use Rattle.sparql_algebra.specs.declared.mapping.Binding.{Binding}
 use Rattle.answer_bodies.specs.OfRows.{triple_of_row, AreTripleRows, IsOfTriples}
 use Rattle.answer_bodies.specs.declared.answer.Answer.{Answer}
 use Rattle.answer_bodies.specs.declared.answer.Answer.TheVariants.{Triples, Table}
-use Rattle.session_core.specs.Answers.{fitting}
+use Rattle.answer_bodies.proofs.RowTriples.{triple_terms}
+use Rattle.session_core.specs.Answers.{fitting, bytes_of_triple, text_bytes}
 use Rattle.session_core.specs.Graph.{fits}
-use Rattle.session_core.specs.Numbers.{Numbers, AreNumbers, triple_in, triples_in, pattern_in, graph_of}
+use Rattle.session_core.specs.Numbers.{Numbers, AreNumbers, triple_in, triples_in, pattern_in, graph_of, bytes_of_ids, bytes_in}
 use Rattle.session_core.specs.Prepared.{AreMatching, IsMeant}
-use Rattle.session_core.proofs.NumbersCountOnce.{mapped_from, mapped_to}
-use Rattle.session_core.proofs.NumbersFit.{same_fits_one, counted, fit_no_more}
+use Rattle.session_core.proofs.Fitting.{triple_one}
+use Rattle.session_core.proofs.NumbersCountOnce.{nil_ordered, mapped_from, mapped_to}
+use Rattle.session_core.proofs.NumbersFit.{same_fits_one, weighed, counted, fit_no_more}
 use Rattle.session_core.proofs.NumbersFollow.{graph_ordered, graph_from, graph_has}
 
 -- rows of triples are of the triples that they mean
@@ -64,6 +68,13 @@ pub answers_meant : (terms : List Term) (triples : List IdTriple) (rows : List (
     → IfOk r (IsOfTriples (slice_get terms) rows) → IfOk r (IsMeant terms triples)
 answers_meant terms triples rows (Ok reply) e is = answer_meant terms triples reply (subst (λ l. IsOfTriples (slice_get terms) l reply) e is)
 answers_meant terms triples rows (Err refused) e is = tt
+
+-- a triple of numbers has as many bytes of texts as the triple that it means
+meant_bytes : (terms : List Term) (t : IdTriple) (q : Triple) → triple_in terms t ≡ Some q → bytes_of_ids terms t ≡ bytes_of_triple q
+meant_bytes terms t q h =
+    let m = triple_terms _ _ _ q h in
+    let size = λ (found : Option Term). option_map_or (λ term. length (text_of term)) found 0 in
+    omega (arith, ap size m.0, ap size m.1, ap size m.2)
 
 module _ (numbers : Numbers) (templates : List Pattern) (are : AreNumbers numbers) where
   abbrev ids : List IdPattern
@@ -113,15 +124,34 @@ module _ (numbers : Numbers) (templates : List Pattern) (are : AreNumbers number
       (λ q c. from_found q (Contains-permutation them (triples_in numbers.terms found) q (IsPermutation-sym (triples_in numbers.terms found) them same) c))
       (λ q c. Contains-permutation (triples_in numbers.terms found) them q same (to_found q c))
 
+  found_there : (t : IdTriple) → Contains found t → Contains numbers.triples t
+  found_there t c = was_there (fits_one fits_ids ids) numbers.triples t c
+
+  -- put in order they are it
+  found_meant : with_all triple_cmp [] (triples_in numbers.terms found) ≡ fitting (graph_of numbers) templates
+  found_meant =
+      let has = λ (q : Triple). with_all_has triple_cmp_total triple_one [] (triples_in numbers.terms found) q in
+      sorted_same triple_cmp_total (with_all triple_cmp [] (triples_in numbers.terms found)) (fitting (graph_of numbers) templates)
+      (with_all_ordered triple_cmp_total triple_one [] (triples_in numbers.terms found) (nil_ordered triple_cmp))
+      (IsStrictlySortedBy-filter triple_cmp (fits_one fits templates) (graph_of numbers) (graph_ordered numbers))
+      (λ q c. from_found q (⊎_elim (λ none. absurd (none_in q none)) (λ d. d) ((has q).0 c)))
+      (λ q c. (has q).1 (inr (to_found q c)))
+
+  -- so their texts have as many bytes
+  found_bytes : bytes_in numbers.terms found ≡ text_bytes (fitting (graph_of numbers) templates)
+  found_bytes =
+      sym (weighed numbers.terms (named_once numbers.terms are.once) found found_ordered (λ t c. are.named t (found_there t c))
+      bytes_of_triple (bytes_of_ids numbers.terms) (meant_bytes numbers.terms))
+      ∙ ap text_bytes found_meant
+
   -- so triples that are those that fit are matching
   matching : (triples : List IdTriple) → triples ≡ found → length triples ≤ 65536 → AreMatching numbers templates triples
   matching triples e few = record {
     ordered = subst AreOrdered (sym e) found_ordered;
-    there = λ t c. was_there (fits_one fits_ids ids) numbers.triples t (subst (λ l. Contains l t) e c);
-    answers = λ reply is. record {
-      is = is.is ∙ ap Triples (meant_is is.meant is.rises (subst (λ l. IsPermutation (triples_in numbers.terms l) is.meant) e is.same));
-      few = omega (arith, as_many_fit, ap length e, few);
-    };
+    there = λ t c. found_there t (subst (λ l. Contains l t) e c);
+    few = omega (arith, as_many_fit, ap length e, few);
+    answers = λ reply is. is.is ∙ ap Triples (meant_is is.meant is.rises (subst (λ l. IsPermutation (triples_in numbers.terms l) is.meant) e is.same));
+    bytes = ap (bytes_in numbers.terms) e ∙ found_bytes;
   }
 
   -- what a view gives for the templates by numbers are the triples that fit

@@ -14,3 +14,4 @@ pub mod Passed
 pub mod Growing
 pub mod Sending
 pub mod AnswersAreMeant
+pub mod TextsAreWritten

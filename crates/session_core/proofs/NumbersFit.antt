@@ -1,5 +1,5 @@
 -- Triples of numbers fit patterns of numbers exactly where the triples that they mean fit the patterns.
-use Rattle.std.proofs.Common.{◌≡◌, ◌∙◌, ◌+◌, ◌≤◌, ◌⊎◌, Bool, true, false, ◌&&◌, ◌||◌, cond, List, [], ◌∷◌, length, filter, filter_map, Contains, Option, Some, None, IsSome, slice_get, refl, sym, ap, inl, inr, arith, nat_eq}
+use Rattle.std.proofs.Common.{◌≡◌, ◌∙◌, ℕ, ◌+◌, ◌≤◌, ◌⊎◌, Bool, true, false, ◌&&◌, ◌||◌, cond, List, [], ◌∷◌, length, filter, filter_map, sum_by, Contains, Option, Some, None, IsSome, slice_get, refl, sym, ap, inl, inr, arith, nat_eq}
 use Rattle.std.proofs.lemmas.Bool.Decides.{Decides-eqb}
 use Rattle.std.proofs.lemmas.Option.{same_Some}
 use Rattle.std.proofs.lemmas.List.Sums.{sum_by-cons, length-filter}
@@ -123,12 +123,19 @@ module _ (terms : List Term) (once : NamesOnce (slice_get terms)) where
       at (Some ids) h rest = λ i. same_fits pattern ids t q h k i || rest i
 
   module _ (triples : List IdTriple) (ordered : AreOrdered triples) (named : (t : IdTriple) → Contains triples t → IsSome (triple_in terms t)) where
+    -- the triples weigh as much as those that they mean, where each weighs as much as what it means
+    pub weighed : (f : Triple → ℕ) (g : IdTriple → ℕ) → ((t : IdTriple) (q : Triple) → triple_in terms t ≡ Some q → g t ≡ f q)
+        → sum_by f (with_all triple_cmp [] (triples_in terms triples)) ≡ sum_by g triples
+    weighed f g same =
+        let sum = mapped_sum triple_cmp_total triple_one f id_triple_cmp_total (triple_in terms) g same (means_one terms once) [] triples ordered named
+        (λ t q c e none. none_in q none) in
+        omega (arith, sum)
+
     -- what passes a test among the triples is as much as what passes it among those that they mean
     pub counted : (test : IdTriple → Bool) (means : Triple → Bool) → ((t : IdTriple) (q : Triple) → triple_in terms t ≡ Some q → test t ≡ means q)
         → length (filter means (with_all triple_cmp [] (triples_in terms triples))) ≡ length (filter test triples)
     counted test means same =
-        let sum = mapped_sum triple_cmp_total triple_one (λ q. cond (means q) 1 0) id_triple_cmp_total (triple_in terms) (λ t. cond (test t) 1 0)
-        (λ t q e. ap (λ b. cond b 1 0) (same t q e)) (means_one terms once) [] triples ordered named (λ t q c e none. none_in q none) in
+        let sum = weighed (λ q. cond (means q) 1 0) (λ t. cond (test t) 1 0) (λ t q e. ap (λ b. cond b 1 0) (same t q e)) in
         omega (arith, length-filter means (with_all triple_cmp [] (triples_in terms triples)), sum, length-filter test triples)
 
     all_pass : {X : Type 0} (xs : List X) → length (filter (λ x. true) xs) ≡ length xs

@@ -1,5 +1,6 @@
 -- What a query is answered.
-use Rattle.std.specs.Prelude.{◌≡◌, ℕ, List, [], ◌∷◌, length, filter, Option, Some, None, codes, refl}
+use Rattle.std.specs.Prelude.{◌≡◌, ℕ, ◌+◌, List, [], ◌∷◌, length, filter, sum_by, Option, Some, None, codes, refl}
+use Rattle.m3_terms.specs.Order.{text_of}
 use Rattle.m3_terms.specs.declared.term.Term.TheVariants.{Literal}
 use Rattle.m3_terms.specs.declared.triple.Triple.{Triple}
 use Rattle.m3_terms.specs.declared.pattern.Slot.TheVariants.{Any, Is}
@@ -25,6 +26,14 @@ abbrev pub width_of : List Triple → Wish → ℕ
 width_of graph (Templates templates) = length (fitting graph templates)
 width_of graph (Sparql text) = 0
 
+-- how many bytes the three texts of a triple have
+abbrev pub bytes_of_triple : Triple → ℕ
+bytes_of_triple t = length (text_of t.subject) + length (text_of t.predicate) + length (text_of t.object)
+
+-- how many bytes the texts of triples have
+abbrev pub text_bytes : List Triple → ℕ
+text_bytes triples = sum_by bytes_of_triple triples
+
 -- a triple that fits two templates stands once in the answer
 example_once : answer_to (lamp_state (Literal (codes "on")) ∷ []) (Templates (lamp_state_is Any ∷ lamp_state_is (Is (Literal (codes "on"))) ∷ []))
     ≡ Some (Triples (lamp_state (Literal (codes "on")) ∷ []))
@@ -39,3 +48,7 @@ example_order = refl
 -- what fits no template is left out, so the width is 1
 example_width : width_of (lamp_state (Literal (codes "off")) ∷ lamp_state (Literal (codes "on")) ∷ []) (Templates (lamp_state_is (Is (Literal (codes "on"))) ∷ [])) ≡ 1
 example_width = refl
+
+-- `lamp` and `state` stand in both triples, and count in both: 9 and 2, and 9 and 3
+example_bytes : text_bytes (lamp_state (Literal (codes "on")) ∷ lamp_state (Literal (codes "off")) ∷ []) ≡ 23
+example_bytes = refl

@@ -1,7 +1,8 @@
 -- A graph by the numbers of its terms: what a triple of numbers means, read through a list of terms.
-use Rattle.std.specs.Prelude.{◌≡◌, ℕ, ◌+◌, ◌≤◌, List, [], ◌∷◌, ◌++◌, filter_map, Contains, Option, Some, None, IsSome, slice_get, if◌then◌else◌, codes, refl}
+use Rattle.std.specs.Prelude.{◌≡◌, ℕ, ◌+◌, ◌≤◌, List, [], ◌∷◌, ◌++◌, length, filter_map, sum_by, Contains, Option, Some, None, IsSome, slice_get, if◌then◌else◌, codes, refl}
 use Rattle.std.specs.List.{IsDistinct}
-use Rattle.m3_terms.specs.Order.{term_eq, triple_cmp}
+use Rattle.std.specs.Option.{option_map_or}
+use Rattle.m3_terms.specs.Order.{text_of, term_eq, triple_cmp}
 use Rattle.m3_terms.specs.Pattern.{triple_with}
 use Rattle.m3_terms.specs.declared.term.Term.{Term}
 use Rattle.m3_terms.specs.declared.term.Term.TheVariants.{Uri, Literal}
@@ -95,6 +96,18 @@ pattern_with subject predicate object = None
 abbrev pub pattern_in : List Term → Pattern → Option IdPattern
 pattern_in terms pattern = pattern_with (place_in terms pattern.subject) (place_in terms pattern.predicate) (place_in terms pattern.object)
 
+-- how many bytes the text of a number's term has: none where no term has the number
+abbrev pub bytes_at : List Term → TermId → ℕ
+bytes_at terms id = option_map_or (λ term. length (text_of term)) (slice_get terms id.0) 0
+
+-- how many bytes the three texts of a triple of numbers have
+abbrev pub bytes_of_ids : List Term → IdTriple → ℕ
+bytes_of_ids terms t = bytes_at terms t.subject + bytes_at terms t.predicate + bytes_at terms t.object
+
+-- how many bytes the texts of triples of numbers have
+abbrev pub bytes_in : List Term → List IdTriple → ℕ
+bytes_in terms triples = sum_by (bytes_of_ids terms) triples
+
 -- the numbers 0, 1 and 2 mean that the lamp has the state on
 example_means : triple_in (Uri (codes "lamp") ∷ Uri (codes "state") ∷ Literal (codes "on") ∷ [])
     (record { subject = record { 0 = 0 }; predicate = record { 0 = 1 }; object = record { 0 = 2 } })
@@ -108,3 +121,12 @@ example_number = refl
 -- a pattern of a term that has no number is left out
 example_unknown : pattern_in (Uri (codes "lamp") ∷ []) (record { subject = Is (Uri (codes "lamp")); predicate = Is (Uri (codes "state")); object = Any }) ≡ None
 example_unknown = refl
+
+-- the numbers 0, 1 and 2 have texts of 4, 5 and 2 bytes
+example_bytes : bytes_in (Uri (codes "lamp") ∷ Uri (codes "state") ∷ Literal (codes "on") ∷ [])
+    (record { subject = record { 0 = 0 }; predicate = record { 0 = 1 }; object = record { 0 = 2 } } ∷ []) ≡ 11
+example_bytes = refl
+
+-- a number that no term has counts nothing
+example_no_bytes : bytes_at (Uri (codes "lamp") ∷ []) (record { 0 = 1 }) ≡ 0
+example_no_bytes = refl

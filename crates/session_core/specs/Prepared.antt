@@ -1,5 +1,5 @@
 -- What is prepared of an update before it is made.
-use Rattle.std.specs.Prelude.{◌≡◌, ◌≤◌, ℕ, false, List, ◌++◌, length, filter_map, Contains, Some, None}
+use Rattle.std.specs.Prelude.{◌≡◌, ◌≤◌, ◌<◌, ◌⊎◌, ℕ, false, List, ◌++◌, length, filter_map, Contains, Some, None}
 use Rattle.std.specs.List.{IsDistinct}
 use Rattle.std.specs.List.Sorted.{IsPermutation, IsStrictlySortedBy}
 use Rattle.m3_terms.specs.Order.{term_eq, triple_cmp}
@@ -18,8 +18,8 @@ use Rattle.answer_bodies.specs.declared.answer.Answer.{Answer}
 use Rattle.answer_bodies.specs.declared.answer.Answer.TheVariants.{Triples}
 use Rattle.ssap_shape.specs.declared.status.Status.TheVariants.{Success}
 use Rattle.ssap_shape.specs.declared.reply.Confirm.{Confirm}
-use Rattle.session_core.specs.Answers.{fitting}
-use Rattle.session_core.specs.Numbers.{Numbers, triples_in, graph_of, ids_of, pattern_in, made, CanBeMade}
+use Rattle.session_core.specs.Answers.{fitting, text_bytes}
+use Rattle.session_core.specs.Numbers.{Numbers, triples_in, graph_of, ids_of, pattern_in, bytes_in, made, CanBeMade}
 use Rattle.session_core.specs.Requests.{is_overfull, confirm_bytes}
 
 -- these are the new terms of patterns that are inserted, within the limit of named terms
@@ -49,16 +49,24 @@ pub record IsMeant (terms : List Term) (triples : List IdTriple) (answer : Answe
   pub rises : IsStrictlySortedBy triple_cmp meant
   pub same : IsPermutation (triples_in terms triples) meant
 
--- the answer is that of templates, and no more than an answer may have
+-- the answer is that of templates, of no more triples than an answer may have, and no more bytes of texts than a confirm
 pub record IsAnswer (graph : List Triple) (templates : List Pattern) (answer : Answer) : Type 0 where
   pub is : answer ≡ Triples (fitting graph templates)
   pub few : length (fitting graph templates) ≤ 65536
+  pub brief : text_bytes (fitting graph templates) ≤ 4194304
 
--- triples of numbers are of the graph and in order, and what they mean is the answer to templates
+-- templates have no answer: too many triples fit, or their texts alone are longer than a confirm may be
+abbrev pub IsUnanswerable : List Triple → List Pattern → Type 0
+IsUnanswerable graph templates = (65536 < length (fitting graph templates)) ⊎ (4194304 < text_bytes (fitting graph templates))
+
+-- triples of numbers are of the graph, in order and no more than an answer may have: what they mean is the answer to
+-- templates, and their texts have as many bytes
 pub record AreMatching (numbers : Numbers) (templates : List Pattern) (triples : List IdTriple) : Type 0 where
   pub ordered : AreOrdered triples
   pub there : (t : IdTriple) → Contains triples t → Contains numbers.triples t
-  pub answers : (reply : Answer) → IsMeant numbers.terms triples reply → IsAnswer (graph_of numbers) templates reply
+  pub few : length (fitting (graph_of numbers) templates) ≤ 65536
+  pub answers : (reply : Answer) → IsMeant numbers.terms triples reply → reply ≡ Triples (fitting (graph_of numbers) templates)
+  pub bytes : bytes_in numbers.terms triples ≡ text_bytes (fitting (graph_of numbers) templates)
 
 -- the confirm of success that brings an answer
 abbrev pub answering : Heads → Answer → Confirm

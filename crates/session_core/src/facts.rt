@@ -7,14 +7,15 @@ ghost use Rattle.triple_index.specs.Graphs.{count_fitting};
 ghost use Rattle.session_core.specs.Graph.{fits, terms_of as terms_in, with_named};
 ghost use Rattle.session_core.specs.Numbers.{graph_of, number_in, ids_of_triple, made, CanBeMade};
 ghost use Rattle.session_core.specs.Requests.{is_no_triple, is_overfull};
-ghost use Rattle.session_core.specs.Prepared.{IsUpdateOf, IsDraft, IsChange, IsAnswer, IsMeant, AreMatching};
+ghost use Rattle.session_core.specs.Prepared.{IsUpdateOf, IsDraft, IsChange, IsAnswer, IsMeant, IsUnanswerable, AreMatching};
 ghost use Rattle.pattern_join.specs.Answers.{IsOverwide};
 ghost use Rattle.session_core.specs.Answers.{fitting};
 ghost use Rattle.triple_index.specs.Changes.{AreOrdered};
 ghost use Rattle.triple_index.specs.declared.triple.IdTriple.{IdTriple as SeenTriple};
 
 use crate::numbers::{patterns_by, terms_of, triples_by};
-use crate::space::TRIPLE_LIMIT;
+use crate::space::{CONFIRM_LIMIT, TRIPLE_LIMIT};
+use crate::texts::texts_exceed;
 use answer_bodies::Answer;
 use m3_intern::{Draft, InternFault, Interner};
 use m3_terms::{NoMemory, Patterns, Steps, Term, TermId, TermTable, Triple};
@@ -175,19 +176,25 @@ impl Facts {
         matches(alloc, &view, &ids, steps)
     }
 
-    /// The triples that fit a template, in their order, or `None` where they are more than an answer may have. It reads no
-    /// more rows than the triples that fit, summed over the templates.
+    /// The triples that fit a template, in their order, or `None` where they are more than an answer may have, or their
+    /// texts alone are longer than a confirm may be: then no text was copied. It reads no more rows than the triples that
+    /// fit, summed over the templates.
     pub fn find<L: Ledger>(
         &self,
         alloc: Global,
         templates: &Patterns,
         steps: &mut Steps<L>,
     ) -> Result<Option<Answer>, NoMemory>
-        ensures answer { IfOk result (λ found. MatchOption found (65536 < length (fitting (graph_of self.now) templates.now)) (IsAnswer (graph_of self.now) templates.now)) }
+        ensures answer { IfOk result (λ found. MatchOption found (IsUnanswerable (graph_of self.now) templates.now) (IsAnswer (graph_of self.now) templates.now)) }
         ensures reads { steps.new ≤ steps.old + count_fitting fits (graph_of self.now) templates.now }
     {
         match self.matching(alloc, templates, steps) {
-            Ok(triples) => Ok(Some(self.answer(alloc, &triples)?)),
+            Ok(triples) => {
+                if texts_exceed(CONFIRM_LIMIT, &self.terms, triples.as_slice()) {
+                    return Ok(None);
+                }
+                Ok(Some(self.answer(alloc, &triples)?))
+            }
             Err(EvalFault::TooWide) => Ok(None),
             Err(EvalFault::NoMemory) => Err(NoMemory),
         }

@@ -13,6 +13,7 @@ mod ranks;
 mod ring;
 mod space;
 mod store;
+mod texts;
 mod update;
 
 pub use call::{Call, Reply};

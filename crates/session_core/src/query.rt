@@ -38,6 +38,7 @@ impl Store {
     }
 
     // Answers the triples that fit templates, unless they are too many or too long for a message.
+    #[tactic(auto, using(crate::proofs::Passed::query_unanswerable))]
     fn find<L: Ledger>(
         &mut self,
         alloc: Global,
