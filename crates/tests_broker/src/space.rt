@@ -23,6 +23,15 @@ const INSERTED: &[u8] =
 const LEFT: &[u8] =
     b"<transaction_type>LEAVE</transaction_type><transaction_id>1</transaction_id><node_id>k</node_id><space_id>X</space_id><parameter name=\"status\">m3:Success</parameter></SSAP_message>";
 
+const FOUND_NONE: &[u8] =
+    b"<SSAP_message><message_type>CONFIRM</message_type><transaction_type>QUERY</transaction_type><transaction_id>1</transaction_id><node_id>k</node_id><space_id>X</space_id><parameter name=\"status\">m3:Success</parameter><parameter name=\"results\"><triple_list></triple_list></parameter></SSAP_message>";
+
+const FOUND_ON: &[u8] =
+    b"<SSAP_message><message_type>CONFIRM</message_type><transaction_type>QUERY</transaction_type><transaction_id>1</transaction_id><node_id>k</node_id><space_id>X</space_id><parameter name=\"status\">m3:Success</parameter><parameter name=\"results\"><triple_list><triple><subject type=\"uri\">lamp</subject><predicate>state</predicate><object type=\"literal\">on</object></triple></triple_list></parameter></SSAP_message>";
+
+const FOUND_OFF: &[u8] =
+    b"<SSAP_message><message_type>CONFIRM</message_type><transaction_type>QUERY</transaction_type><transaction_id>1</transaction_id><node_id>k</node_id><space_id>X</space_id><parameter name=\"status\">m3:Success</parameter><parameter name=\"results\"><triple_list><triple><subject type=\"uri\">lamp</subject><predicate>state</predicate><object type=\"literal\">off</object></triple></triple_list></parameter></SSAP_message>";
+
 const SUCCESS: &[u8] = b"m3:Success</parameter></SSAP_message>";
 
 const DENIED: &[u8] = b"m3:SIB.Error.AccessDenied</parameter></SSAP_message>";
@@ -55,16 +64,28 @@ fn request(
     Ok(Arrived::Request(Request { heads, ask }))
 }
 
-// That a lamp of this name is on.
-fn lamp(alloc: Global, name: &[u8]) -> Result<Pattern, Fail> {
+// That a lamp of this name is in this state.
+fn lamp_is(alloc: Global, name: &[u8], object: Slot) -> Result<Pattern, Fail> {
     let subject = Slot::Is(Term::uri(alloc, name)?);
     let predicate = Slot::Is(Term::uri(alloc, b"state")?);
-    let object = Slot::Is(Term::literal(alloc, b"on")?);
     Ok(Pattern {
         subject,
         predicate,
         object,
     })
+}
+
+// That a lamp of this name is on.
+fn lamp(alloc: Global, name: &[u8]) -> Result<Pattern, Fail> {
+    let on = Slot::Is(Term::literal(alloc, b"on")?);
+    lamp_is(alloc, name, on)
+}
+
+// One pattern: that the lamp is in this state.
+fn one_lamp(alloc: Global, object: Slot) -> Result<Patterns, Fail> {
+    let mut patterns = Patterns::new(alloc);
+    patterns.push(lamp_is(alloc, b"lamp", object)?)?;
+    Ok(patterns)
 }
 
 fn insert(alloc: Global, insert: Patterns, confirm: bool) -> Result<Arrived, Fail> {
@@ -82,6 +103,33 @@ fn insert_lamp(alloc: Global, confirm: bool) -> Result<Arrived, Fail> {
     insert(alloc, patterns, confirm)
 }
 
+// The lamp is off, whatever it was before.
+fn switch_off(alloc: Global) -> Result<Arrived, Fail> {
+    let remove = one_lamp(alloc, Slot::Any)?;
+    let insert = one_lamp(alloc, Slot::Is(Term::literal(alloc, b"off")?))?;
+    let ask = Ask::Update {
+        remove,
+        insert,
+        confirm: true,
+    };
+    request(alloc, b"k", Transaction::Update, ask)
+}
+
+fn query(alloc: Global, wish: Wish) -> Result<Arrived, Fail> {
+    request(alloc, b"k", Transaction::Query, Ask::Query(wish))
+}
+
+// Which state the lamp is in.
+fn query_lamp(alloc: Global) -> Result<Arrived, Fail> {
+    let templates = one_lamp(alloc, Slot::Any)?;
+    query(alloc, Wish::Templates(templates))
+}
+
+fn query_text(alloc: Global) -> Result<Arrived, Fail> {
+    let text = Text::read(alloc, b"SELECT DISTINCT ?o { <lamp> <state> ?o }")?;
+    query(alloc, Wish::Sparql(text))
+}
+
 // A message that is wrong by itself.
 fn wrong(alloc: Global) -> Result<Arrived, Fail> {
     match request(alloc, b"k", Transaction::Join, Ask::Join)? {
@@ -93,18 +141,17 @@ fn wrong(alloc: Global) -> Result<Arrived, Fail> {
     }
 }
 
-// What a letter stands for: the node joins, leaves, inserts with and without a confirm or queries; a wrong message; and
-// else no request.
+// What a letter stands for: the node joins, leaves, inserts with and without a confirm, updates, queries by a template or
+// by a text; a wrong message; and else no request.
 fn arrived(alloc: Global, letter: u8) -> Result<Arrived, Fail> {
     match letter {
         b'J' => request(alloc, b"k", Transaction::Join, Ask::Join),
         b'L' => request(alloc, b"k", Transaction::Leave, Ask::Leave),
         b'I' => insert_lamp(alloc, true),
         b'i' => insert_lamp(alloc, false),
-        b'Q' => {
-            let ask = Ask::Query(Wish::Templates(Patterns::new(alloc)));
-            request(alloc, b"k", Transaction::Query, ask)
-        }
+        b'U' => switch_off(alloc),
+        b'Q' => query_lamp(alloc),
+        b'S' => query_text(alloc),
         b'W' => wrong(alloc),
         _ => Ok(Arrived::NotRequest),
     }
@@ -243,13 +290,17 @@ impl<L: Ledger> Room<L> {
 // Calls, what they answer, how the message that is taken last ends, and how many updates and triples there are then.
 type Case = (&'static [u8], &'static str, &'static [u8], u64, u64);
 
-const CASES: [Case; 11] = [
+const CASES: [Case; 15] = [
     (b"N.J1T1", "o1d1m", JOINED, 0, 0),
     (b"N.J1T1I1I1T1", "o1d1md1d1m", INSERTED, 2, 1),
     (b"N.J1T1L1T1i1T1", "o1d1md1md1m", DENIED, 0, 0),
     (b"N.J1L1T1T1", "o1d1d1mm", LEFT, 0, 0),
     (b"N.J1T1i1T1", "o1d1mde", JOINED, 1, 1),
-    (b"N.Q1T1J1T1Q1T1", "o1d1md1md1m", UNBUILT, 0, 0),
+    (b"N.Q1T1", "o1d1m", DENIED, 0, 0),
+    (b"N.J1T1Q1T1", "o1d1md1m", FOUND_NONE, 0, 0),
+    (b"N.J1T1I1T1Q1T1", "o1d1md1md1m", FOUND_ON, 1, 1),
+    (b"N.J1I1T1T1U1Q1T1T1", "o1d1d1mmd1d1mm", FOUND_OFF, 2, 1),
+    (b"N.J1T1S1T1", "o1d1md1m", UNBUILT, 0, 0),
     (b"N.W1T1", "o1d1m", WRONG, 0, 0),
     (b"N.N.J2T1T2I1T2T1", "o1o2d2emd1em", INSERTED, 1, 1),
     (b"N.B1B1J1E1X1T1", "o1d1cccdv", b"", 0, 0),
