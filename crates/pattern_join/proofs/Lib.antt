@@ -1,4 +1,12 @@
+pub mod Alike
+pub mod Extended
 pub mod FilteredPermutations
+pub mod KeptItems
+pub mod Masks
+pub mod Meanings
 pub mod OrderOnce
 pub mod OneMoreTemplate
+pub mod Reached
 pub mod RowsOnce
+pub mod Scanned
+pub mod Searching

@@ -1,7 +1,9 @@
 ghost use Rattle.std.specs.Prelude.{◌≡◌};
+ghost use Rattle.pattern_join.specs.Search.{fault_of};
 ghost use Rattle.pattern_join.specs.declared.fault.EvalFault.TheVariants.{NoMemory as Refused};
 
 use m3_terms::NoMemory;
+use sparql_algebra::RowsFault;
 
 /// Why a query has no answer.
 #[derive(Clone, Copy, Debug, PartialEq, Eq)]
@@ -17,5 +19,16 @@ impl From<NoMemory> for EvalFault {
 
     fn from(_refused: NoMemory) -> EvalFault {
         EvalFault::NoMemory
+    }
+}
+
+impl From<RowsFault> for EvalFault {
+    ghost from_gives = { λ rows fault. fault ≡ fault_of rows };
+
+    fn from(rows: RowsFault) -> EvalFault {
+        match rows {
+            RowsFault::TooMany => EvalFault::TooWide,
+            RowsFault::NoMemory => EvalFault::NoMemory,
+        }
     }
 }

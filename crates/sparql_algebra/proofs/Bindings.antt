@@ -1,5 +1,5 @@
 -- Bindings by rising variable, and one that is put among them.
-use Rattle.std.proofs.Common.{◌≡◌, ◌∙◌, ℕ, suc, ◌+◌, Bool, true, false, cond, List, [], ◌∷◌, filter, find, nat_eq, nat_lt, None, Some, refl, sym, ap, subst, arith, ◌≤◌, ◌<◌, length, ◌⊎◌, inl, inr}
+use Rattle.std.proofs.Common.{◌≡◌, ◌∙◌, ℕ, suc, ◌+◌, Bool, true, false, cond, List, [], ◌∷◌, filter, find, nat_eq, nat_lt, None, Some, refl, sym, ap, subst, arith, ◌≤◌, ◌<◌, length, ◌⊎◌, inl, inr, ◌++◌}
 use Rattle.std.proofs.lemmas.Bool.{eqb-false, cases_lt, lt-ltb, le-ltb}
 use Rattle.std.specs.Cmp.{nat_cmp_is}
 use Rattle.m3_terms.specs.Inserted.{inserted}
@@ -71,6 +71,26 @@ put_there (b ∷ bs) var term s e =
     let lacked = unbound_lacks (b ∷ bs) var e in
     let rest = lacks_at b bs var.0 (nat_eq b.var.0 var.0) refl e in
     put_at b (record { var = var; term = term }) bs s.0 lacked.0 (put_there bs var term s.1 rest.1) (cases_lt b.var.0 var.0)
+
+-- what holds of each of some bindings holds of each that a test keeps: one step
+all_kept_at : (P : Binding → Type 0) (b : Binding) (bs : List Binding) (kept : Bool) → P b → AllByRecursion P bs → AllByRecursion P (cond kept (b ∷ bs) bs)
+all_kept_at P b bs true h a = (h, a)
+all_kept_at P b bs false h a = a
+
+-- what holds of each of some bindings holds of each that a test keeps
+all_kept : (P : Binding → Type 0) (test : Binding → Bool) (bs : List Binding) → AllByRecursion P bs → AllByRecursion P (filter test bs)
+all_kept P test [] a = tt
+all_kept P test (b ∷ bs) a = all_kept_at P b (filter test bs) (test b) a.0 (all_kept P test bs a.1)
+
+-- what holds of each of two lists holds of each of both
+all_both : (P : Binding → Type 0) (xs ys : List Binding) → AllByRecursion P xs → AllByRecursion P ys → AllByRecursion P (xs ++ ys)
+all_both P [] ys a b = b
+all_both P (x ∷ xs) ys a b = (a.0, all_both P xs ys a.1 b)
+
+-- what holds of a binding and of each of some holds of each once it is put among them
+pub all_put : (P : Binding → Type 0) (new : Binding) (bs : List Binding) → P new → AllByRecursion P bs → AllByRecursion P (inserted var_cmp new bs)
+all_put P new bs h a = all_both P (filter (λ y. is_lt (var_cmp y new)) bs) (new ∷ filter (λ y. is_gt (var_cmp y new)) bs)
+    (all_kept P (λ y. is_lt (var_cmp y new)) bs a) (h, all_kept P (λ y. is_gt (var_cmp y new)) bs a)
 
 -- the bindings of three variables stand by rising variable
 pub three_rising : (subject predicate object : TermId) → IsStrictlySortedBy var_cmp (three subject predicate object)

@@ -1,11 +1,11 @@
-mod Bindings
+pub mod Bindings
 pub mod SameBindings
 pub mod Lookups
 mod Agreeing
 pub mod Naming
 mod Forms
 mod Within
-mod Gathered
+pub mod Gathered
 mod Merges
 mod Grouping
 mod Removed
@@ -16,3 +16,4 @@ pub mod ListedPatterns
 pub mod ListedSolutions
 pub mod ListedWidths
 pub mod ListedAnswers
+pub mod StandForLaws

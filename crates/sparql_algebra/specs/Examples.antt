@@ -1,9 +1,11 @@
 -- Examples that tell the readings of conditions, joins and patterns apart.
-use Rattle.std.specs.Prelude.{◌≡◌, ℕ, zero, suc, List, [], ◌∷◌, Option, None, Some, IsSome, true, false, nat_eq, ◌<◌, refl}
+use Rattle.std.specs.Prelude.{◌≡◌, ℕ, zero, suc, List, Contains, [], ◌∷◌, Option, None, Some, IsSome, true, false, nat_eq, ◌<◌, refl}
 use Rattle.std.proofs.Common.{inl, inr, ap, sym, ◌∙◌, subst, arith}
 use Rattle.std.proofs.lemmas.Bool.{ne_eqb, eq-eqb}
 use Rattle.std.proofs.lemmas.Option.{none-some}
+use Rattle.std.specs.List.{IsDistinct}
 use Rattle.std.specs.List.Sorted.{IsStrictlySortedBy}
+use Rattle.m3_terms.specs.InsertedLaws.{cons_cases, head_in}
 use Rattle.std.specs.Option.{unwrap_or}
 use Rattle.m3_terms.specs.declared.term.Term.{Term}
 use Rattle.m3_terms.specs.declared.term.Term.TheVariants.{Uri, Literal}
@@ -11,14 +13,15 @@ use Rattle.m3_terms.specs.declared.triple.Triple.{Triple}
 use Rattle.sparql_algebra.specs.declared.var.Var.{Var as Variable}
 use Rattle.sparql_algebra.specs.declared.pattern.Place.TheVariants.{Var as VarAt, Is as TermAt}
 use Rattle.sparql_algebra.specs.declared.expr.Operand.{Operand, more_of-Operand, end_of-Operand, Var, Is, Str'}
-use Rattle.sparql_algebra.specs.declared.expr.Compare.TheVariants.{Equal, NotEqual, Less}
+use Rattle.sparql_algebra.specs.declared.expr.Compare.TheVariants.{Equal, NotEqual, Less, LessEqual, GreaterEqual}
 use Rattle.sparql_algebra.specs.declared.expr.Truth.TheVariants.{True, False, Error}
 use Rattle.sparql_algebra.specs.declared.expr.Expr.{Expr, more_of-Expr, end_of-Expr, Or', And', Not', Value, Compare as Compares, Bound, Contains as Has}
-use Rattle.sparql_algebra.specs.declared.algebra.Algebra.{Bgp}
+use Rattle.sparql_algebra.specs.declared.algebra.Algebra.{Algebra, more_of-Algebra, end_of-Algebra, Bgp, Union'}
 use Rattle.sparql_algebra.specs.Merged.{lookup, IsLeftJoined}
 use Rattle.sparql_algebra.specs.TermSolutions.{Solution, term_var, Compatible, merge, bind, term_at}
 use Rattle.sparql_algebra.specs.Truth.{truth}
 use Rattle.sparql_algebra.specs.Patterns.{MakesTriple}
+use Rattle.sparql_algebra.specs.Width.{HasCount, HasWidth}
 use Rattle.sparql_algebra.specs.Evaluation.{IsSolution, Passes}
 
 -- the variable of a number
@@ -83,6 +86,16 @@ uri_has_no_order = refl
 
 uris_have_no_order : truth (Compares Less (Is uri_a) (Is uri_a)) [] ≡ Error
 uris_have_no_order = refl
+
+-- of two equal literals neither comes before the other, and both signs with `=` hold
+equal_is_not_less : truth (Compares Less (Is text_a) (Is text_a)) [] ≡ False
+equal_is_not_less = refl
+
+equal_is_less_equal : truth (Compares LessEqual (Is text_a) (Is text_a)) [] ≡ True
+equal_is_less_equal = refl
+
+less_is_not_greater_equal : truth (Compares GreaterEqual (Is text_a) (Is text_b)) [] ≡ False
+less_is_not_greater_equal = refl
 
 -- STR of a uri is the literal of its text
 str_is_literal : truth (Compares Equal (str (Is uri_a)) (Is text_a)) [] ≡ True
@@ -159,3 +172,43 @@ empty_pattern graph (b ∷ s) is =
     let found : IsSome (term_at (b ∷ s) b.var) = rw own refl in
     let from = (is.exactly b.var).0 found in
     let below : from.1.0 < 0 = from.1.1 in absurd (omega arith)
+
+-- in the list of the empty solution alone there is no other
+only_empty : (s : Solution) → Contains ([] ∷ []) s → s ≡ []
+only_empty s c = elim (cons_cases [] [] s c) [ inl e ↦ sym e | inr k ↦ (let below : k.0 < 0 = k.1 in absurd (omega arith)) ]
+
+empty_there : (s : Solution) → s ≡ [] → Contains ([] ∷ []) s
+empty_there s e = subst (Contains ([] ∷ [])) (sym e) (head_in [] [])
+
+-- the empty basic graph pattern has one solution, and so has the union of two of them
+empty_count : (graph : List Triple) → HasCount (Bgp []) graph 1
+unfolding IsDistinct
+empty_count graph = (
+  [] ∷ [],
+  record {
+    distinct = (tt, tt);
+    exactly = λ s. (λ c. subst (IsSolution (Bgp []) graph) (sym (only_empty s c)) (empty_pattern_has graph), λ is. empty_there s (empty_pattern graph s is));
+  },
+  refl,
+)
+
+abbrev two_empties : Algebra
+two_empties = Union' tt (more_of-Algebra (Bgp []) end_of-Algebra) tt (more_of-Algebra (Bgp []) end_of-Algebra)
+
+union_count : (graph : List Triple) → HasCount two_empties graph 1
+unfolding IsDistinct
+union_count graph = (
+  [] ∷ [],
+  record {
+    distinct = (tt, tt);
+    exactly = λ s. (
+      λ c. inl (subst (IsSolution (Bgp []) graph) (sym (only_empty s c)) (empty_pattern_has graph)),
+      λ is. elim is [ inl l ↦ empty_there s (empty_pattern graph s l) | inr r ↦ empty_there s (empty_pattern graph s r) ],
+    );
+  },
+  refl,
+)
+
+-- but its width is 3: each of its parts counts, and a solution of two sides counts once in the union
+union_width : (graph : List Triple) → HasWidth two_empties graph 3
+union_width graph = (1 ∷ 1 ∷ 1 ∷ [], (union_count graph, (empty_count graph, (empty_count graph, tt))), refl)

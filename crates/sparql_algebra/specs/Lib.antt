@@ -16,3 +16,4 @@ pub mod Projected
 pub mod Near
 pub mod Listed
 pub mod ListedLaws
+pub mod StandFor

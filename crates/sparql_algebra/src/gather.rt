@@ -37,8 +37,8 @@ impl IdRows {
         Ok(())
     }
 
-    // Appends a row unless it is here, or refuses it where there would be too many.
-    pub(crate) fn gather_within(&mut self, row: Mapping, most: usize) -> Result<(), RowsFault>
+    /// Appends a row unless it is here. `TooMany` comes exactly where there would be more than `most`.
+    pub fn gather_within(&mut self, row: Mapping, most: usize) -> Result<(), RowsFault>
         requires { length self.old ≤ most }
         ensures ok { OnOk result (AreExactly (IsOfOr self.old row) self.new) }
         ensures few { OnOk result (length self.new ≤ most) }
