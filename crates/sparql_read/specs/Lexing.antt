@@ -1,0 +1,56 @@
+-- A text as its tokens: white space and comments stand between them, and the longest token is taken.
+use Rattle.std.specs.Prelude.{◌≡◌, ◌≢◌, ℕ, ◌+◌, ◌≤◌, Bool, ◌||◌, not, ◌==◌, IsTrue, List, [], ◌∷◌, ◌++◌, length}
+use Rattle.std.specs.List.{list_all}
+use Rattle.m3_terms.specs.Text.{IsText}
+use Rattle.sparql_read.specs.Tokens.{Token, Spells}
+
+-- a byte is a space, a tab, a carriage return or a line feed
+abbrev pub is_white : ℕ → Bool
+is_white byte = byte == 0x20 || byte == 9 || byte == 13 || byte == 10
+
+-- a byte ends a line: a carriage return or a line feed
+abbrev pub ends_line : ℕ → Bool
+ends_line byte = byte == 13 || byte == 10
+
+-- a line ends here: at one of these bytes, or with the text
+abbrev pub IsLineEnd : List ℕ → Type 0
+IsLineEnd [] = Unit {0}
+IsLineEnd (byte ∷ bytes) = IsTrue (ends_line byte)
+
+-- white space and comments; a comment is `#` and a text up to the end of its line
+pub data Gap : List ℕ → List ℕ → Type 0 where
+  Nothing : (bytes : List ℕ) → Gap bytes bytes
+  White : (byte : ℕ) (bytes rest : List ℕ) → IsTrue (is_white byte) → Gap bytes rest → Gap (byte ∷ bytes) rest
+  Comment : (text bytes rest : List ℕ) → IsText text → IsTrue (list_all (λ b. not (ends_line b)) text) → IsLineEnd bytes
+      → Gap bytes rest → Gap (35 ∷ text ++ bytes) rest
+
+-- the token at the start of bytes is the longest one that they begin with
+pub record Begins (token : Token) (bytes rest : List ℕ) : Type 0 where
+  pub word : List ℕ
+  pub spelled : Spells token word
+  pub split : bytes ≡ word ++ rest
+  pub longest : (other : Token) (longer left : List ℕ) → Spells other longer → bytes ≡ longer ++ left → length longer ≤ length word
+
+-- some bytes that begin with no token, white space or comment
+pub record IsNoToken (bytes : List ℕ) : Type 0 where
+  pub some : bytes ≢ []
+  pub token : (other : Token) (word left : List ℕ) → Spells other word → bytes ≢ word ++ left
+  pub gap : (left : List ℕ) → Gap bytes left → left ≡ bytes
+
+-- a token and the offset of its first byte
+pub record Placed : Type 0 where
+  pub token : Token
+  pub place : ℕ
+
+-- the tokens of bytes at the end of a text of so many bytes, and the offset where they stop: at the text's end, or at
+-- the first bytes that are no token
+pub data Lexes (total : ℕ) : List ℕ → List Placed → ℕ → Type 0 where
+  Ends : (bytes : List ℕ) → Gap bytes [] → Lexes total bytes [] total
+  Stops : (bytes rest : List ℕ) (place : ℕ) → Gap bytes rest → IsNoToken rest → place + length rest ≡ total → Lexes total bytes [] place
+  Goes : (bytes rest next : List ℕ) (token : Token) (place : ℕ) (tokens : List Placed) (stop : ℕ) → Gap bytes rest
+      → Begins token rest next → place + length rest ≡ total → Lexes total next tokens stop
+      → Lexes total bytes (record { token = token; place = place } ∷ tokens) stop
+
+-- the tokens of a text, up to its end or to the first bytes that are no token, which is at this offset
+abbrev pub AreTokens : List ℕ → List Placed → ℕ → Type 0
+AreTokens text tokens stop = Lexes (length text) text tokens stop

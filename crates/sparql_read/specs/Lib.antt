@@ -1,0 +1,11 @@
+pub mod Tokens
+pub mod Lexing
+pub mod Front
+pub mod Scope
+pub mod Conditions
+pub mod Triples
+pub mod Groups
+pub mod Translation
+pub mod Queries
+pub mod Counts
+pub mod Faults
