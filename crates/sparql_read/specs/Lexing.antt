@@ -24,17 +24,19 @@ pub data Gap : List ℕ → List ℕ → Type 0 where
   Comment : (text bytes rest : List ℕ) → IsText text → IsTrue (list_all (λ b. not (ends_line b)) text) → IsLineEnd bytes
       → Gap bytes rest → Gap (35 ∷ text ++ bytes) rest
 
--- the token at the start of bytes is the longest one that they begin with
+-- a token at the start of bytes, and the bytes behind it
+abbrev pub Reads : Token → List ℕ → List ℕ → Type 0
+Reads token bytes rest = (word : List ℕ) × Spells token word × (bytes ≡ word ++ rest)
+
+-- the token that bytes begin with: the longest, so that no other leaves fewer bytes
 pub record Begins (token : Token) (bytes rest : List ℕ) : Type 0 where
-  pub word : List ℕ
-  pub spelled : Spells token word
-  pub split : bytes ≡ word ++ rest
-  pub longest : (other : Token) (longer left : List ℕ) → Spells other longer → bytes ≡ longer ++ left → length longer ≤ length word
+  pub reads : Reads token bytes rest
+  pub longest : (other : Token) (left : List ℕ) → Reads other bytes left → length rest ≤ length left
 
 -- some bytes that begin with no token, white space or comment
 pub record IsNoToken (bytes : List ℕ) : Type 0 where
   pub some : bytes ≢ []
-  pub token : (other : Token) (word left : List ℕ) → Spells other word → bytes ≢ word ++ left
+  pub token : (other : Token) (left : List ℕ) → ¬ (Reads other bytes left)
   pub gap : (left : List ℕ) → Gap bytes left → left ≡ bytes
 
 -- a token and the offset of its first byte

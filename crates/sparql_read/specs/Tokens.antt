@@ -2,7 +2,7 @@
 use Rattle.std.specs.Prelude.{◌≡◌, ◌≢◌, ◌⊎◌, ℕ, Bool, true, false, ◌||◌, ◌&&◌, not, ◌==◌, nat_le, if◌then◌else◌, IsTrue, List, [], ◌∷◌, ◌++◌, Option, Some, None, codes, refl}
 use Rattle.std.proofs.Common.{inr}
 use Rattle.std.specs.List.{list_all}
-use Rattle.std.specs.Str.{str_to_ascii_uppercase}
+use Rattle.std.specs.Str.{str_to_ascii_lowercase}
 use Rattle.m3_terms.specs.Text.{IsText}
 use Rattle.sparql_read.specs.declared.word.Word.{Word}
 use Rattle.sparql_read.specs.declared.word.Word.TheVariants as word
@@ -105,10 +105,14 @@ spelling word.Str = codes "STR"
 spelling word.Contains = codes "CONTAINS"
 spelling word.StrStarts = codes "STRSTARTS"
 
+-- bytes without the case of letters; that of `a` counts
+abbrev pub folded : Word → List ℕ → List ℕ
+folded word.A bytes = bytes
+folded word bytes = str_to_ascii_lowercase bytes
+
 -- the bytes are the word; the letters of a keyword are of either case, but `a` is written so alone
 abbrev pub SpellsWord : Word → List ℕ → Type 0
-SpellsWord word.A bytes = bytes ≡ spelling word.A
-SpellsWord word bytes = str_to_ascii_uppercase bytes ≡ spelling word
+SpellsWord word bytes = folded word bytes ≡ folded word (spelling word)
 
 -- a quote is `"` or `'`
 abbrev pub IsQuote : ℕ → Type 0
