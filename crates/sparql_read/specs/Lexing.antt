@@ -12,6 +12,10 @@ is_white byte = byte == 0x20 || byte == 9 || byte == 13 || byte == 10
 abbrev pub ends_line : ℕ → Bool
 ends_line byte = byte == 13 || byte == 10
 
+-- a byte that ends no line
+abbrev pub is_inline : ℕ → Bool
+is_inline byte = not (ends_line byte)
+
 -- a line ends here: at one of these bytes, or with the text
 abbrev pub IsLineEnd : List ℕ → Type 0
 IsLineEnd [] = Unit {0}
@@ -21,7 +25,7 @@ IsLineEnd (byte ∷ bytes) = IsTrue (ends_line byte)
 pub data Gap : List ℕ → List ℕ → Type 0 where
   Nothing : (bytes : List ℕ) → Gap bytes bytes
   White : (byte : ℕ) (bytes rest : List ℕ) → IsTrue (is_white byte) → Gap bytes rest → Gap (byte ∷ bytes) rest
-  Comment : (text bytes rest : List ℕ) → IsText text → IsTrue (list_all (λ b. not (ends_line b)) text) → IsLineEnd bytes
+  Comment : (text bytes rest : List ℕ) → IsText text → IsTrue (list_all is_inline text) → IsLineEnd bytes
       → Gap bytes rest → Gap (35 ∷ text ++ bytes) rest
 
 -- a token at the start of bytes, and the bytes behind it

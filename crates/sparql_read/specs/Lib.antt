@@ -1,5 +1,6 @@
 pub mod Tokens
 pub mod Lexing
+pub mod Cutting
 pub mod Front
 pub mod Scope
 pub mod Conditions

@@ -24,9 +24,17 @@ is_letter byte = (nat_le 65 byte && nat_le byte 90) || (nat_le 97 byte && nat_le
 abbrev pub is_name_byte : ℕ → Bool
 is_name_byte byte = is_letter byte || (nat_le 48 byte && nat_le byte 57) || byte == 95
 
+-- a byte of a prefix: a letter, a digit, `_`, `-` or `.`
+abbrev pub is_prefix_byte : ℕ → Bool
+is_prefix_byte byte = is_name_byte byte || byte == 45 || byte == 46
+
 -- the first byte of a local part: a letter, a digit, `_` or `:`
+abbrev pub is_local_first : ℕ → Bool
+is_local_first byte = is_name_byte byte || byte == 58
+
+-- a byte of a local part: a letter, a digit, `_`, `:`, `-` or `.`
 abbrev pub is_local_byte : ℕ → Bool
-is_local_byte byte = is_name_byte byte || byte == 58
+is_local_byte byte = is_local_first byte || byte == 45 || byte == 46
 
 -- the last of these bytes is a dot
 abbrev pub ends_in_dot : List ℕ → Bool
@@ -34,18 +42,18 @@ ends_in_dot [] = false
 ends_in_dot (byte ∷ []) = byte == 46
 ends_in_dot (byte ∷ other ∷ bytes) = ends_in_dot (other ∷ bytes)
 
--- no byte at all, or one that may come first, and then such bytes as may follow, `-` and `.`, but no dot at the end
+-- no byte at all, or one that may come first and others of their kind, but no dot at the end
 abbrev pub is_dotted : (ℕ → Bool) → (ℕ → Bool) → List ℕ → Bool
 is_dotted first other [] = true
-is_dotted first other (byte ∷ bytes) = first byte && list_all (λ b. other b || b == 45 || b == 46) bytes && not (ends_in_dot bytes)
+is_dotted first other (byte ∷ bytes) = first byte && list_all other bytes && not (ends_in_dot bytes)
 
 -- a prefix: empty, or a letter and then letters, digits, `_`, `-` and `.`, not ending in `.`
 abbrev pub is_prefix : List ℕ → Bool
-is_prefix = is_dotted is_letter is_name_byte
+is_prefix = is_dotted is_letter is_prefix_byte
 
 -- a local part: empty, or letters, digits, `_`, `:`, `-` and `.`, neither beginning with `-` or `.` nor ending in `.`
 abbrev pub is_local : List ℕ → Bool
-is_local = is_dotted is_local_byte is_local_byte
+is_local = is_dotted is_local_first is_local_byte
 
 -- a byte of an IRI: none of 0 to 0x20, `<`, `>`, `"`, `{`, `}`, `|`, `^`, the backquote and the backslash
 abbrev pub is_iri_byte : ℕ → Bool

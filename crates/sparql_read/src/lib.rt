@@ -2,8 +2,19 @@
 //! say.
 #![tactic(auto)]
 
+mod bytes;
 mod fault;
+mod fixed;
+mod gap;
+mod lexeme;
+mod next;
+mod raw;
+mod readers;
+mod runs;
+mod token;
 mod word;
 
 pub use fault::{Limit, ReadFault};
+pub use lexeme::Lexeme;
+pub use next::{Next, next_token};
 pub use word::Word;
