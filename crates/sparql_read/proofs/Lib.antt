@@ -4,3 +4,8 @@ pub mod StringPieces
 pub mod TokenReadings
 pub mod TokenBegins
 pub mod Gaps
+pub mod Meanings
+pub mod Taken
+pub mod Following
+pub mod FollowingGroups
+pub mod Completions
