@@ -2,6 +2,7 @@ pub mod Tokens
 pub mod Lexing
 pub mod Cutting
 pub mod Machine
+pub mod Stepping
 pub mod Front
 pub mod Scope
 pub mod Conditions

@@ -12,6 +12,7 @@ mod next;
 mod raw;
 mod readers;
 mod runs;
+mod step;
 mod symbol;
 mod token;
 mod word;
