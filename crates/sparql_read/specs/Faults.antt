@@ -1,5 +1,5 @@
 -- What a text says, and why it says nothing.
-use Rattle.std.specs.Prelude.{◌≡◌, ◌≢◌, ℕ, ◌<◌, Bool, true, false, List, [], ◌∷◌, ◌++◌, Some, None, length, map}
+use Rattle.std.specs.Prelude.{◌≡◌, ◌≢◌, ℕ, Bool, true, false, List, [], ◌∷◌, ◌++◌, Some, None, length, map}
 use Rattle.std.specs.List.{last_or}
 use Rattle.sparql_algebra.specs.declared.algebra.Query.{Query}
 use Rattle.sparql_read.specs.declared.fault.ReadFault.{ReadFault}
@@ -7,7 +7,7 @@ use Rattle.sparql_read.specs.declared.fault.ReadFault.TheVariants as fault
 use Rattle.sparql_read.specs.declared.fault.Limit.{Limit}
 use Rattle.sparql_read.specs.declared.word.Word.TheVariants as word
 use Rattle.sparql_read.specs.Tokens.{Token, Name, Fixed}
-use Rattle.sparql_read.specs.Lexing.{Placed, AreTokens}
+use Rattle.sparql_read.specs.Lexing.{Placed, BeginsWith, AreTokens, StopsAt}
 use Rattle.sparql_read.specs.Scope.{declarations_of, iri_of}
 use Rattle.sparql_read.specs.Queries.{IsQuery, IsViable}
 use Rattle.sparql_read.specs.Counts.{passed}
@@ -35,7 +35,7 @@ alone tokens = map (λ placed. placed.token) tokens
 -- what the text says, which is whole or lacks the word DISTINCT alone
 pub record SaysWith (distinct : Bool) (text : List ℕ) (query : Query) : Type 0 where
   pub tokens : List Placed
-  pub are : AreTokens text tokens (length text)
+  pub are : AreTokens text tokens
   pub fine : AreFine [] tokens
   pub reads : IsQuery distinct query (alone tokens)
 
@@ -45,9 +45,7 @@ Says text query = SaysWith true text query
 
 -- the first token of the text that faults, and those before it
 pub record Faults (text : List ℕ) (before : List Placed) (placed : Placed) : Type 0 where
-  pub after : List Placed
-  pub stop : ℕ
-  pub are : AreTokens text (before ++ placed ∷ after) stop
+  pub begins : BeginsWith text (before ++ placed ∷ [])
   pub fine : AreFine [] before
 
 -- why the text says nothing
@@ -59,10 +57,9 @@ pub data Refuses (text : List ℕ) : ReadFault → Type 0 where
   OverLimit : (before : List Placed) (placed : Placed) (which : Limit) → Faults text before placed → IsInProfile (alone before) placed.token
       → passed (alone before) placed.token ≡ Some which → Refuses text (fault.OverLimit which placed.place)
   -- bytes are no token
-  NoToken : (tokens : List Placed) (stop : ℕ) → AreTokens text tokens stop → stop < length text → AreFine [] tokens
-      → Refuses text (fault.NotInProfile stop)
+  NoToken : (tokens : List Placed) (place : ℕ) → StopsAt text tokens place → AreFine [] tokens → Refuses text (fault.NotInProfile place)
   -- the text ends before a query is whole
-  NotWhole : (tokens : List Placed) → AreTokens text tokens (length text) → AreFine [] tokens
+  NotWhole : (tokens : List Placed) → AreTokens text tokens → AreFine [] tokens
       → ((distinct : Bool) (query : Query) → ¬ (IsQuery distinct query (alone tokens))) → Refuses text (fault.NotInProfile (length text))
   -- it lacks only DISTINCT
   NotDistinct : (query : Query) → SaysWith false text query → Refuses text fault.NotDistinct

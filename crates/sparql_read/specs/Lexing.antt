@@ -48,15 +48,26 @@ pub record Placed : Type 0 where
   pub token : Token
   pub place : ℕ
 
--- the tokens of bytes at the end of a text of so many bytes, and the offset where they stop: at the text's end, or at
--- the first bytes that are no token
-pub data Lexes (total : ℕ) : List ℕ → List Placed → ℕ → Type 0 where
-  Ends : (bytes : List ℕ) → Gap bytes [] → Lexes total bytes [] total
-  Stops : (bytes rest : List ℕ) (place : ℕ) → Gap bytes rest → IsNoToken rest → place + length rest ≡ total → Lexes total bytes [] place
-  Goes : (bytes rest next : List ℕ) (token : Token) (place : ℕ) (tokens : List Placed) (stop : ℕ) → Gap bytes rest
-      → Begins token rest next → place + length rest ≡ total → Lexes total next tokens stop
-      → Lexes total bytes (record { token = token; place = place } ∷ tokens) stop
+-- the tokens with which bytes at the end of a text of so many bytes begin, each at its offset, and the bytes behind them
+pub data Lexes (total : ℕ) : List ℕ → List Placed → List ℕ → Type 0 where
+  NoToken : (bytes : List ℕ) → Lexes total bytes [] bytes
+  Goes : (bytes middle next : List ℕ) (token : Token) (place : ℕ) (tokens : List Placed) (rest : List ℕ) → Gap bytes middle
+      → Begins token middle next → place + length middle ≡ total → Lexes total next tokens rest
+      → Lexes total bytes (record { token = token; place = place } ∷ tokens) rest
 
--- the tokens of a text, up to its end or to the first bytes that are no token, which is at this offset
-abbrev pub AreTokens : List ℕ → List Placed → ℕ → Type 0
-AreTokens text tokens stop = Lexes (length text) text tokens stop
+-- the text begins with these tokens
+abbrev pub BeginsWith : List ℕ → List Placed → Type 0
+BeginsWith text tokens = (rest : List ℕ) × Lexes (length text) text tokens rest
+
+-- these are the tokens of the text, up to its end
+abbrev pub AreTokens : List ℕ → List Placed → Type 0
+AreTokens text tokens = (rest : List ℕ) × Lexes (length text) text tokens rest × Gap rest []
+
+-- these are the tokens of the text up to the first bytes that are no token, which stand at this offset
+pub record StopsAt (text : List ℕ) (tokens : List Placed) (place : ℕ) : Type 0 where
+  pub rest : List ℕ
+  pub bytes : List ℕ
+  pub lexes : Lexes (length text) text tokens rest
+  pub gap : Gap rest bytes
+  pub stops : IsNoToken bytes
+  pub at : place + length bytes ≡ length text
