@@ -75,7 +75,7 @@ symbol_ends CloseParen symbols = refl
 symbol_ends Comma symbols = refl
 
 -- tokens and then others
-run_both : (stack : Option (List Symbol)) (tokens more : List Token) → run stack (map kind_of (tokens ++ more)) ≡ run (run stack (map kind_of tokens)) (map kind_of more)
+pub run_both : (stack : Option (List Symbol)) (tokens more : List Token) → run stack (map kind_of (tokens ++ more)) ≡ run (run stack (map kind_of tokens)) (map kind_of more)
 run_both stack [] more = refl
 run_both stack (token ∷ tokens) more = run_both (take_one stack (kind_of token)) tokens more
 

@@ -9,3 +9,4 @@ pub mod Taken
 pub mod Following
 pub mod FollowingGroups
 pub mod Completions
+pub mod TokensTaken

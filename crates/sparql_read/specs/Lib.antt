@@ -12,3 +12,4 @@ pub mod Translation
 pub mod Queries
 pub mod Counts
 pub mod Faults
+pub mod Leading

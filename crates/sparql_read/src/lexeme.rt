@@ -1,4 +1,6 @@
-use crate::Word;
+ghost use Rattle.sparql_read.specs.Stepping.{IsKindOf};
+
+use crate::{Kind, Word};
 
 /// A token as it stands in a text.
 #[derive(Clone, Copy, Debug)]
@@ -13,4 +15,23 @@ pub enum Lexeme<'a> {
     String(&'a [u8]),
     /// A sign or a keyword.
     Fixed(Word),
+}
+
+/// What the grammar sees of a token.
+pub(crate) fn kind_of(lexeme: Lexeme<'_>) -> Kind
+    ensures { IsKindOf lexeme.entry result }
+{
+    match lexeme {
+        Lexeme::Iri(_) => Kind::Iri,
+        Lexeme::Name { local, .. } => {
+            if local.is_empty() {
+                Kind::Bare
+            } else {
+                Kind::Name
+            }
+        }
+        Lexeme::Variable(_) => Kind::Variable,
+        Lexeme::String(_) => Kind::String,
+        Lexeme::Fixed(word) => Kind::Fixed(word),
+    }
 }

@@ -478,7 +478,12 @@ pub(crate) fn step(symbol: Symbol, kind: Kind) -> Step
         Symbol::Joined => at_joined(kind),
         Symbol::Compared => at_compared(kind),
         Symbol::Prim => {
-            at_condition(&[Symbol::Condition], Follows::Nothing, Follows::Nothing, kind)
+            at_condition(
+                &[Symbol::Condition],
+                Follows::Nothing,
+                Follows::Nothing,
+                kind,
+            )
         }
         Symbol::Operand => at_operand(Follows::Nothing, kind),
         Symbol::Variable => at_variable(kind),
