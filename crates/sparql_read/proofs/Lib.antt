@@ -5,6 +5,8 @@ pub mod TokenReadings
 pub mod TokenBegins
 pub mod Gaps
 pub mod Meanings
+pub mod TakenInGroups
+pub mod TakenInConditions
 pub mod Taken
 pub mod Following
 pub mod FollowingGroups
