@@ -12,3 +12,4 @@ pub mod Following
 pub mod FollowingGroups
 pub mod Completions
 pub mod TokensTaken
+pub mod Tallied

@@ -13,3 +13,4 @@ pub mod Queries
 pub mod Counts
 pub mod Faults
 pub mod Leading
+pub mod Tallying

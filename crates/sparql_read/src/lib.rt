@@ -16,13 +16,15 @@ mod runs;
 mod stack;
 mod step;
 mod symbol;
+mod tally;
 mod token;
 mod word;
 
 pub use fault::{Limit, ReadFault};
-pub use laws::machine_reads_queries;
+pub use laws::{machine_reads_queries, tally_counts_tokens};
 pub use leading::{Led, lead};
 pub use lexeme::Lexeme;
 pub use next::{Next, next_token};
 pub use symbol::{Kind, Symbol};
+pub use tally::{Tally, count_token};
 pub use word::Word;
