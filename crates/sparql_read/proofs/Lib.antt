@@ -13,3 +13,4 @@ pub mod FollowingGroups
 pub mod Completions
 pub mod TokensTaken
 pub mod Tallied
+pub mod NamesGrowing

@@ -14,3 +14,4 @@ pub mod Counts
 pub mod Faults
 pub mod Leading
 pub mod Tallying
+pub mod Naming

@@ -1,0 +1,23 @@
+-- The names of variables, one more at a time.
+use Rattle.std.specs.Prelude.{◌≡◌, ℕ, List, [], ◌∷◌, ◌++◌, if◌then◌else◌, map, fold}
+use Rattle.std.specs.List.{list_any}
+use Rattle.std.specs.Borrow.{Bor}
+use Rattle.m3_terms.specs.Order.{text_eq}
+use Rattle.sparql_read.specs.Tokens.{Token}
+use Rattle.sparql_read.specs.Scope.{name_of, names_of}
+
+-- the names with one more, unless it is among them
+abbrev pub with_name : List (List ℕ) → List ℕ → List (List ℕ)
+with_name names name = if list_any (λ known. text_eq known name) names then names else (names ++ name ∷ [])
+
+-- the texts that are pointed to
+abbrev pub texts : List (Bor (List ℕ)) → List (List ℕ)
+texts names = map (λ name. name.now) names
+
+-- a name was added to those before, unless it was among them
+abbrev pub AddsName : List (Bor (List ℕ)) → List ℕ → List (Bor (List ℕ)) → Type 0
+AddsName before name after = texts after ≡ with_name (texts before) name
+
+-- one more token adds its name, if it is a variable
+abbrev pub NamesGrow : Type 0
+NamesGrow = (tokens : List Token) (token : Token) → names_of (tokens ++ token ∷ []) ≡ fold with_name (names_of tokens) (name_of token)
