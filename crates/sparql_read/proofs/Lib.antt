@@ -14,3 +14,4 @@ pub mod Completions
 pub mod TokensTaken
 pub mod Tallied
 pub mod NamesGrowing
+pub mod DeclarationsGrowing

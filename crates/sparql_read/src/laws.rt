@@ -1,6 +1,6 @@
 //! Laws of the grammar and its machine. Each function does nothing: its contract is the law.
 ghost use Rattle.sparql_read.specs.Machine.{TakesViable, EndsWhole};
-ghost use Rattle.sparql_read.specs.Naming.{NamesGrow};
+ghost use Rattle.sparql_read.specs.Naming.{NamesGrow, DeclarationsGrow};
 ghost use Rattle.sparql_read.specs.Tallying.{TallyCounts};
 
 /// The machine takes exactly the tokens that begin a query, and ends exactly behind a whole one.
@@ -17,4 +17,9 @@ pub fn tally_counts_tokens()
 /// One more token adds its name to those of the variables, or none.
 pub fn names_grow()
     ensures { NamesGrow }
+{}
+
+/// Behind two others a token adds a declaration to theirs, or none.
+pub fn declarations_grow()
+    ensures { DeclarationsGrow }
 {}
