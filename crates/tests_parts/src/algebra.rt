@@ -1,7 +1,27 @@
 //! Mappings and lists of solutions.
+use m3_intern::Interner;
 use m3_terms::TermId;
-use sparql_algebra::{IdRows, Mapping, Var};
+use sparql_algebra::{
+    Expr, IdRows, Mapping, RowsFault, Var, VarList, filter_rows, join_rows, left_join_rows,
+    project_rows, union_rows,
+};
+use std::alloc::Global;
 use std::test::Fail;
+
+// The list of one solution, which binds one variable.
+fn one(alloc: Global, var: u8, term: u32) -> Result<IdRows, Fail> {
+    let mut row = Mapping::new(alloc);
+    if row.get(Var(var & 15)).is_some() {
+        return Err("bound".into());
+    }
+    row.bind(Var(var & 15), TermId(term))?;
+    let mut rows = IdRows::new(alloc);
+    if rows.contains(&row) {
+        return Err("there".into());
+    }
+    rows.add(row)?;
+    Ok(rows)
+}
 
 #[test]
 fn a_mapping_binds_variables_in_any_order(rt: HostRuntime) -> Result<(), Fail> {
@@ -34,5 +54,46 @@ fn rows_are_kept_in_the_order_of_their_adding(rt: HostRuntime) -> Result<(), Fai
     let row = rows.get(0).ok_or("no row")?;
     assert_eq!(rt; row.get(Var(2)), Some(TermId(3)));
     assert!(rt; rows.get(2).is_none());
+    Ok(())
+}
+
+#[test]
+fn solutions_of_different_variables_are_joined_within_a_limit(rt: HostRuntime) -> Result<(), Fail> {
+    let alloc = rt.alloc();
+    let left = one(alloc, 0, 7)?;
+    let right = one(alloc, 1, 8)?;
+    let refused = join_rows(alloc, &left, &right, 0).err();
+    assert_eq!(rt; refused, Some(RowsFault::TooMany));
+    let joined = join_rows(alloc, &left, &right, 1)?;
+    let row = joined.get(0).ok_or("no row")?;
+    assert_eq!(rt; row.get(Var(0)), Some(TermId(7)));
+    assert_eq!(rt; row.get(Var(1)), Some(TermId(8)));
+    Ok(())
+}
+
+#[test]
+fn a_solution_without_a_compatible_one_stays(rt: HostRuntime) -> Result<(), Fail> {
+    let alloc = rt.alloc();
+    let left = one(alloc, 0, 7)?;
+    let right = one(alloc, 0, 8)?;
+    let table = Interner::new(alloc, 0);
+    let both = union_rows(alloc, &left, &right, 2)?;
+    assert_eq!(rt; both.len(), 2);
+    let stays = left_join_rows(alloc, &left, &right, None, &table, 1)?;
+    assert!(rt; stays.get(0) == left.get(0));
+    assert!(rt; join_rows(alloc, &left, &right, 1)?.is_empty());
+    Ok(())
+}
+
+#[test]
+fn a_solution_is_filtered_and_projected(rt: HostRuntime) -> Result<(), Fail> {
+    let alloc = rt.alloc();
+    let rows = one(alloc, 0, 7)?;
+    let table = Interner::new(alloc, 0);
+    let unbound = filter_rows(alloc, &Expr::Bound(Var(1)), &rows, &table, 1)?;
+    assert!(rt; unbound.is_empty());
+    let none = project_rows(alloc, &rows, &VarList::new(alloc))?;
+    assert!(rt; none.contains(&Mapping::new(alloc)));
+    assert_eq!(rt; none.len(), 1);
     Ok(())
 }

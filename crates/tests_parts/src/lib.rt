@@ -17,3 +17,4 @@ mod outside;
 mod scripts;
 #[cfg(test)]
 mod terms;
+mod texts;
