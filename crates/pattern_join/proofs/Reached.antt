@@ -21,10 +21,10 @@ use Rattle.triple_index.specs.GraphLaws.{none_in}
 use Rattle.triple_index.specs.declared.triple.IdTriple.{IdTriple}
 use Rattle.pattern_join.specs.declared.fault.EvalFault.{EvalFault}
 use Rattle.pattern_join.specs.declared.fault.EvalFault.TheVariants.{TooWide, NoMemory}
-use Rattle.pattern_join.specs.Bgp.{AreSolutions, StandsFor}
+use Rattle.pattern_join.specs.Bgp.{AreSolutions, StandsFor, WhyNoRows}
 use Rattle.pattern_join.specs.Meaning.{triple_in, graph_in, AreMeant}
 use Rattle.pattern_join.specs.Scan.{extended_by}
-use Rattle.pattern_join.specs.Search.{id_fits, id_extended_by, IsReached, IsOfOrReached, WhyNoRows}
+use Rattle.pattern_join.specs.Search.{id_fits, id_extended_by, IsReached, IsOfOrReached}
 use Rattle.pattern_join.proofs.Alike.{IsKnown, Alike, rising_named, triple_alike}
 use Rattle.pattern_join.proofs.Extended.{IsWithin, within_trans, makes_within, makes_bound, some_is, is_value, extended_by_is, made_fits, towards}
 use Rattle.pattern_join.proofs.KeptItems.{given_by, given_in}

@@ -21,7 +21,8 @@ use Rattle.pattern_join.specs.declared.fault.EvalFault.{EvalFault}
 use Rattle.pattern_join.specs.declared.fault.EvalFault.TheVariants.{TooWide, NoMemory}
 use Rattle.pattern_join.specs.Meaning.{triple_in, graph_in, AreMeant}
 use Rattle.pattern_join.specs.Scan.{extended_by, scan}
-use Rattle.pattern_join.specs.Search.{id_fits, id_extended_by, IsReached, IsOfOrReached, WhyNoRows, fault_of}
+use Rattle.pattern_join.specs.Bgp.{WhyNoRows, fault_of}
+use Rattle.pattern_join.specs.Search.{id_fits, id_extended_by, IsReached, IsOfOrReached}
 use Rattle.pattern_join.proofs.Alike.{IsKnown, Alike, triple_alike}
 use Rattle.pattern_join.proofs.Masks.{fits_of_meaning}
 use Rattle.pattern_join.proofs.Meanings.{meaning_of}
@@ -156,9 +157,10 @@ module _ {terms : ℕ → Option Term} {triples : List IdTriple} {pattern : Patt
       found_by row s = (here.exactly row).0 (elim s [ inl c ↦ inl c | inr r ↦ inr (t, head_in t rows, next_through row r) ])
 
       -- where too much is found by it, too much is to be found
-      pub found_over : (fault : EvalFault) → WhyNoRows (IsOfOrReached found terms triples rest next) fault
-          → WhyNoRows (IsOfOrReached old terms triples (pattern ∷ rest) from) fault
-      found_over fault w = why_no_more (IsOfOrReached found terms triples rest next) (IsOfOrReached old terms triples (pattern ∷ rest) from) fault found_by w
+      pub found_over : (patterns : List PatternTriple) → patterns ≡ pattern ∷ rest → (fault : EvalFault) → WhyNoRows (IsOfOrReached found terms triples rest next) fault
+          → WhyNoRows (IsOfOrReached old terms triples patterns from) fault
+      found_over patterns are fault w = subst (λ (ps : List PatternTriple). WhyNoRows (IsOfOrReached old terms triples ps from) fault) (sym are)
+          (why_no_more (IsOfOrReached found terms triples rest next) (IsOfOrReached old terms triples (pattern ∷ rest) from) fault found_by w)
 
       -- the extended row stands for a solution
       pub next_known : NamesOnce terms → AreMeant terms triples → IsKnown terms from → IsKnown terms next
@@ -209,9 +211,14 @@ module _ {terms : ℕ → Option Term} {triples : List IdTriple} {pattern : Patt
           }
 
   -- behind the last row all is found
-  pub searched_all : {old found : List (List Binding)} {rows : List IdTriple} {start steps : ℕ} → rows ≡ [] → IsSearched terms triples pattern rest from old found rows start steps
+  all_found_at : {old found : List (List Binding)} {rows : List IdTriple} {start steps : ℕ} → rows ≡ [] → IsSearched terms triples pattern rest from old found rows start steps
       → AreExactly (IsOfOrReached old terms triples (pattern ∷ rest) from) found
-  searched_all none searched row = (
+  all_found_at none searched row = (
     λ c. (searched.exactly row).0 (inl c),
     λ r. elim ((searched.exactly row).1 r) [ inl c ↦ c | inr l ↦ absurd (none_in l.0 (subst (λ z. Contains z l.0) none l.1)) ],
   )
+
+  pub searched_all : {old found : List (List Binding)} {rows : List IdTriple} {start steps : ℕ} (patterns : List PatternTriple) → patterns ≡ pattern ∷ rest → rows ≡ []
+      → IsSearched terms triples pattern rest from old found rows start steps → AreExactly (IsOfOrReached old terms triples patterns from) found
+  searched_all {old} {found} patterns are none searched =
+      subst (λ (ps : List PatternTriple). AreExactly (IsOfOrReached old terms triples ps from) found) (sym are) (all_found_at none searched)

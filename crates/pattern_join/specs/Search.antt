@@ -1,24 +1,19 @@
 -- A search for the solutions of a basic graph pattern, by numbers: the rows that it reaches from a row.
-use Rattle.std.specs.Prelude.{◌≡◌, ◌⊎◌, ℕ, Bool, true, false, List, [], ◌∷◌, Contains, Option, None, Some, IsSome, MatchOption, nat_eq, if◌then◌else◌, ⊤, refl}
+use Rattle.std.specs.Prelude.{◌≡◌, ◌⊎◌, ℕ, Bool, true, false, List, [], ◌∷◌, Contains, Option, None, Some, IsSome, MatchOption, nat_eq, if◌then◌else◌, refl}
 use Rattle.std.specs.Option.{option_and_then, option_map_or}
 use Rattle.m3_terms.specs.declared.term.Term.{Term}
 use Rattle.m3_terms.specs.declared.term.Term.TheVariants.{Uri}
 use Rattle.m3_terms.specs.declared.table.TermId.{TermId}
-use Rattle.sparql_algebra.specs.declared.gather.RowsFault.{RowsFault}
-use Rattle.sparql_algebra.specs.declared.gather.RowsFault.TheVariants.{TooMany, NoMemory as OutOfMemory}
 use Rattle.sparql_algebra.specs.declared.mapping.Binding.{Binding}
 use Rattle.sparql_algebra.specs.declared.pattern.Place.{Place}
 use Rattle.sparql_algebra.specs.declared.pattern.Place.TheVariants.{Var, Is}
 use Rattle.sparql_algebra.specs.declared.pattern.PatternTriple.{PatternTriple}
 use Rattle.sparql_algebra.specs.declared.var.Var.{Var as Variable}
-use Rattle.sparql_algebra.specs.RowSets.{AreMoreThan}
 use Rattle.sparql_algebra.specs.Solutions.{binding, bound, with_binding}
 use Rattle.sparql_algebra.specs.TermSolutions.{solution_in}
 use Rattle.triple_index.specs.Fits.{admits, fits}
 use Rattle.triple_index.specs.declared.triple.IdTriple.{IdTriple}
 use Rattle.triple_index.specs.declared.triple.IdPattern.{IdPattern}
-use Rattle.pattern_join.specs.declared.fault.EvalFault.{EvalFault}
-use Rattle.pattern_join.specs.declared.fault.EvalFault.TheVariants.{TooWide, NoMemory}
 use Rattle.pattern_join.specs.Meaning.{triple_in}
 use Rattle.pattern_join.specs.Scan.{put_in, admits_term, fits_under}
 
@@ -61,16 +56,6 @@ IsReached terms triples (pattern ∷ rest) from row = (t : IdTriple) × Contains
 -- a row is of the list, or is reached
 abbrev pub IsOfOrReached : List (List Binding) → (ℕ → Option Term) → List IdTriple → List PatternTriple → List Binding → List Binding → Type 0
 IsOfOrReached rows terms triples patterns from row = Contains rows row ⊎ IsReached terms triples patterns from row
-
--- a fault of a list of rows, as that of a query
-abbrev pub fault_of : RowsFault → EvalFault
-fault_of TooMany = TooWide
-fault_of OutOfMemory = NoMemory
-
--- why the rows that have a property are not given: there are more than 65,536, or memory ran out
-abbrev pub WhyNoRows : (List Binding → Type 0) → EvalFault → Type 0
-WhyNoRows Holds TooWide = AreMoreThan 65536 Holds
-WhyNoRows Holds NoMemory = ⊤
 
 -- the pattern `?0 a ?1` or, with one variable twice, `?0 a ?0`
 abbrev by_variables : ℕ → ℕ → PatternTriple

@@ -7,10 +7,10 @@ ghost use Rattle.sparql_algebra.specs.Patterns.{IsBgpSolution};
 ghost use Rattle.sparql_algebra.specs.RowSets.{AreExactly};
 ghost use Rattle.sparql_algebra.specs.TermSolutions.{id_var, solution_in, HasTerms};
 ghost use Rattle.sparql_algebra.specs.Valid.{HasNamedTriple};
-ghost use Rattle.pattern_join.specs.Bgp.{AreSolutions, StandsFor};
+ghost use Rattle.pattern_join.specs.Bgp.{AreSolutions, StandsFor, WhyNoRows};
 ghost use Rattle.pattern_join.specs.Meaning.{graph_in, AreMeant};
 ghost use Rattle.pattern_join.specs.Scan.{scan};
-ghost use Rattle.pattern_join.specs.Search.{IsOfOrReached, WhyNoRows};
+ghost use Rattle.pattern_join.specs.Search.{IsOfOrReached};
 
 use crate::extend::extended;
 use crate::mask::mask_of;

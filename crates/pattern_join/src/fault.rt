@@ -1,5 +1,5 @@
 ghost use Rattle.std.specs.Prelude.{◌≡◌};
-ghost use Rattle.pattern_join.specs.Search.{fault_of};
+ghost use Rattle.pattern_join.specs.Bgp.{fault_of};
 ghost use Rattle.pattern_join.specs.declared.fault.EvalFault.TheVariants.{NoMemory as Refused};
 
 use m3_terms::NoMemory;

@@ -27,7 +27,7 @@ fn literals(alloc: Global, texts: &[&[u8]]) -> Result<TermList, Fail> {
 }
 
 // Keeps the wanted terms, and says what all kept terms cost then.
-fn keep(interner: &mut Interner, wanted: TermList) -> Result<u64, InternFault> {
+pub(crate) fn keep(interner: &mut Interner, wanted: TermList) -> Result<u64, InternFault> {
     let draft = interner.draft(wanted)?;
     interner.reserve_for(&draft)?;
     interner.commit(draft);

@@ -1,15 +1,23 @@
-//! Answers to template lists.
-ghost use Rattle.std.specs.Prelude.{◌≡◌, ◌<◌};
+//! Answers to template lists, and solutions of basic graph patterns.
+ghost use Rattle.std.specs.Prelude.{◌≡◌, ◌<◌, IsTrue, IsSome, option_copied};
+ghost use Rattle.std.specs.List.{AllByRecursion};
+ghost use Rattle.std.specs.Option.{IsSomeAnd};
+ghost use Rattle.m3_terms.specs.Term.{IsUri};
+ghost use Rattle.sparql_algebra.specs.Valid.{HasNamedPlace, HasNamedTriple};
+ghost use Rattle.pattern_join.specs.Meaning.{triple_in, AreMeant};
 
 use crate::index::{Numbers, index_of, masks, triple, triples};
-use m3_terms::{NoMemory, Steps};
-use pattern_join::{EvalFault, matches};
+use crate::interner::keep;
+use m3_intern::Interner;
+use m3_terms::{NoMemory, Steps, Term, TermId, TermList, TermTable};
+use pattern_join::{EvalFault, bgp_all, matches};
+use sparql_algebra::{IdRows, Mapping, PatternList, PatternTriple, Place, Var};
 use std::alloc::Global;
 use std::marker::Brand;
 use std::process::Abort;
 use std::sync::ledger::{Blank, Ledger};
 use std::test::Fail;
-use triple_index::{IdTriples, View};
+use triple_index::{IdPattern, IdTriple, IdTriples, View};
 
 /// A graph, templates, and the triples that answer them. In a template, 0 is the wildcard.
 struct Case {
@@ -142,4 +150,243 @@ fn widths_end<L: Ledger>(rt: &impl Abort, alloc: Global, blank: Blank)
 fn one_triple_over_the_limit_is_too_wide(rt: HostRuntime) -> Result<(), Fail> {
     widths_end::<Brand>(&rt, rt.alloc(), Blank::new(1));
     Ok(())
+}
+
+/// A position of a triple pattern: a variable by its number, or the uri with this text.
+#[derive(Clone, Copy)]
+enum Spot {
+    Var(u8),
+    Is(&'static [u8]),
+}
+
+/// A graph, triple patterns, and the rows of their solutions.
+struct Solved {
+    graph: &'static [Numbers],
+    patterns: &'static [[Spot; 3]],
+    rows: &'static [&'static [(u8, u32)]],
+}
+
+// The uris under 0, 1, 2 and 3.
+const URIS: &[&[u8]] = &[b"a", b"b", b"p", b"q"];
+
+const A: Spot = Spot::Is(b"a");
+
+const P: Spot = Spot::Is(b"p");
+
+const Q: Spot = Spot::Is(b"q");
+
+const UNKNOWN: Spot = Spot::Is(b"z");
+
+const X: Spot = Spot::Var(0);
+
+const Y: Spot = Spot::Var(1);
+
+const Z: Spot = Spot::Var(2);
+
+// `a p b`, `b p a` and `a p a`
+const RING: &[Numbers] = &[[0, 2, 1], [1, 2, 0], [0, 2, 0]];
+
+const SOLVED: &[Solved] = &[
+    // one pattern
+    Solved {
+        graph: RING,
+        patterns: &[[A, P, X]],
+        rows: &[&[(0, 1)], &[(0, 0)]],
+    },
+    // two patterns that share a variable
+    Solved {
+        graph: RING,
+        patterns: &[[X, P, Y], [Y, P, Z]],
+        rows: &[
+            &[(0, 0), (1, 1), (2, 0)],
+            &[(0, 1), (1, 0), (2, 1)],
+            &[(0, 1), (1, 0), (2, 0)],
+            &[(0, 0), (1, 0), (2, 1)],
+            &[(0, 0), (1, 0), (2, 0)],
+        ],
+    },
+    // a variable twice in one pattern
+    Solved {
+        graph: RING,
+        patterns: &[[X, P, X]],
+        rows: &[&[(0, 0)]],
+    },
+    // no patterns
+    Solved {
+        graph: RING,
+        patterns: &[],
+        rows: &[&[]],
+    },
+    // a term that is in no triple, and one that has no number
+    Solved {
+        graph: RING,
+        patterns: &[[X, Q, Y]],
+        rows: &[],
+    },
+    Solved {
+        graph: RING,
+        patterns: &[[X, P, Y], [Y, P, UNKNOWN]],
+        rows: &[],
+    },
+];
+
+fn uris(alloc: Global, texts: &[&[u8]]) -> Result<Interner, Fail> {
+    let mut terms = TermList::new(alloc);
+    for text in texts {
+        terms.push(Term::uri(alloc, text)?)?;
+    }
+    let mut interner = Interner::new(alloc, 1_000);
+    keep(&mut interner, terms)?;
+    Ok(interner)
+}
+
+fn place(alloc: Global, spot: Spot) -> Result<Place, Fail> {
+    match spot {
+        Spot::Var(var) => Ok(Place::Var(Var(var))),
+        Spot::Is(text) => Ok(Place::Is(Term::uri(alloc, text)?)),
+    }
+}
+
+fn pattern(alloc: Global, spots: &[Spot; 3]) -> Result<PatternTriple, Fail> {
+    let [subject, predicate, object] = *spots;
+    Ok(PatternTriple {
+        subject: place(alloc, subject)?,
+        predicate: place(alloc, predicate)?,
+        object: place(alloc, object)?,
+    })
+}
+
+fn patterns(alloc: Global, table: &[[Spot; 3]]) -> Result<PatternList, Fail> {
+    let mut patterns = PatternList::new(alloc);
+    for spots in table {
+        patterns.push(pattern(alloc, spots)?)?;
+    }
+    Ok(patterns)
+}
+
+fn row(alloc: Global, bindings: &[(u8, u32)]) -> Result<Mapping, Fail> {
+    let mut row = Mapping::new(alloc);
+    for (var, term) in bindings {
+        if *var > 15 || row.get(Var(*var)).is_some() {
+            return Err("no row".into());
+        }
+        row.bind(Var(*var), TermId(*term))?;
+    }
+    Ok(row)
+}
+
+fn is_named(place: &Place) -> bool
+    ensures { IsTrue result → HasNamedPlace 16 place.now }
+{
+    match place {
+        Place::Var(var) => var.0 < 16,
+        Place::Is(_) => true,
+    }
+}
+
+fn has_names(pattern: &PatternTriple) -> bool
+    ensures { IsTrue result → HasNamedTriple 16 pattern.now }
+{
+    is_named(&pattern.subject) && is_named(&pattern.predicate) && is_named(&pattern.object)
+}
+
+fn have_names(patterns: &[PatternTriple]) -> bool
+    ensures { IsTrue result → AllByRecursion (HasNamedTriple 16) patterns.now }
+{
+    match patterns.split_first() {
+        None => true,
+        Some((first, rest)) => has_names(first) && have_names(rest),
+    }
+}
+
+fn is_uri(term: Option<&Term>) -> bool
+    ensures { IsTrue result → IsSomeAnd (option_copied term.entry) IsUri }
+{
+    match term {
+        None => false,
+        Some(term) => term.is_uri(),
+    }
+}
+
+fn is_meant<T: TermTable>(table: &T, triple: &IdTriple) -> bool
+    ensures { IsTrue result → IsSome (triple_in (T.terms table.now) triple.now) }
+{
+    is_uri(table.term_of(triple.subject))
+        && is_uri(table.term_of(triple.predicate))
+        && table.term_of(triple.object).is_some()
+}
+
+/// Whether each triple of a view means a triple.
+fn are_meant<T: TermTable, L: Ledger>(view: &View<'_, L>, table: &T, steps: &mut Steps<L>) -> bool
+    ensures { IsTrue result → AreMeant (T.terms table.now) view.now }
+{
+    let mut rows = view.rows(&IdPattern {
+        subject: None,
+        predicate: None,
+        object: None,
+    });
+    while let Some(row) = rows.next(steps) {
+        if !is_meant(table, &row) {
+            return false;
+        }
+    }
+    true
+}
+
+fn solutions<T: TermTable, L: Ledger>(
+    alloc: Global,
+    graph: &IdTriples,
+    patterns: &PatternList,
+    table: &T,
+    steps: &mut Steps<L>,
+) -> Result<IdRows, Fail> {
+    let index = index_of(alloc, graph, steps)?;
+    let view = View::plain(&index);
+    if !are_meant(&view, table, steps) {
+        return Err("no graph".into());
+    }
+    if !have_names(patterns.as_slice()) {
+        return Err("no names".into());
+    }
+    Ok(bgp_all(alloc, &view, table, patterns, steps)?)
+}
+
+/// Whether these are the rows, each once.
+fn are_rows(alloc: Global, rows: &IdRows, wanted: &[&[(u8, u32)]]) -> Result<bool, Fail> {
+    let mut same = rows.len() == wanted.len();
+    for bindings in wanted {
+        same &= rows.contains(&row(alloc, bindings)?);
+    }
+    Ok(same)
+}
+
+fn is_solved<T: TermTable, L: Ledger>(
+    alloc: Global,
+    case: &Solved,
+    table: &T,
+    steps: &mut Steps<L>,
+) -> Result<bool, Fail> {
+    let graph = triples(alloc, case.graph)?;
+    let patterns = patterns(alloc, case.patterns)?;
+    let rows = solutions(alloc, &graph, &patterns, table, steps)?;
+    are_rows(alloc, &rows, case.rows)
+}
+
+fn all_solved<L: Ledger>(rt: &impl Abort, alloc: Global, blank: Blank) -> Result<(), Fail>
+    requires name { blank.name ≡ L.name }
+    requires parts { blank.parts ≡ L.parts }
+    requires some { 0 < L.parts }
+{
+    let mut steps = Steps::<L>::new(blank);
+    let table = uris(alloc, URIS)?;
+    for (at, case) in SOLVED.iter().enumerate() {
+        let holds = is_solved(alloc, case, &table, &mut steps)?;
+        assert_eq!(rt; (at, holds), (at, true));
+    }
+    Ok(())
+}
+
+#[test]
+fn solves_basic_graph_patterns(rt: HostRuntime) -> Result<(), Fail> {
+    all_solved::<Brand>(&rt, rt.alloc(), Blank::new(1))
 }

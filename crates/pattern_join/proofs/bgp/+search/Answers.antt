@@ -1,12 +1,10 @@
 -- The search, row by row of its first pattern.
-use Rattle.std.proofs.Common.{◌<◌, List, length, sym, subst, arith, rules}
+use Rattle.std.proofs.Common.{◌<◌, length, subst, arith, rules}
 use Rattle.std.proofs.lemmas.Result.{err_from_is_err_and}
 use Rattle.std.specs.List.{AllByRecursion}
-use Rattle.sparql_algebra.specs.declared.pattern.PatternTriple.{PatternTriple}
-use Rattle.sparql_algebra.specs.RowSets.{AreExactly}
 use Rattle.sparql_algebra.specs.Valid.{HasNamedTriple}
 use Rattle.triple_index.specs.Fits.{fits}
-use Rattle.pattern_join.specs.Search.{IsOfOrReached, WhyNoRows}
+use Rattle.pattern_join.specs.Search.{IsOfOrReached}
 use Rattle.pattern_join.proofs.Alike.{IsKnown}
 use Rattle.pattern_join.proofs.Searching.{result_why, itself_found, itself_over, started, passed, followed, found_over, next_known, searched_all}
 use Rattle.pattern_join.proofs.bgp.+search.Goals as goal
@@ -53,10 +51,8 @@ returns-in_err-search-in-Some-2-clause-wide g t c =
     let terms = g.T.TermTable.terms c.args.table.now in
     let p = err_from_is_err_and c.from_residual-in_err-search-in-Some-2.result c.from_residual-in_err-search-in-Some-2.ensures.1 in
     result_why (IsOfOrReached c.args.found.now terms c.args.view.now c.args.patterns.now c.args.from.now) _ _ p.0 p.1 p.2
-    (subst (λ (ps : List PatternTriple). WhyNoRows (IsOfOrReached c.args.found.now terms c.args.view.now ps c.args.from.now) c.in_err-search-in-Some-2.field-0.0)
-    (sym c.in-Some.ensures.cases.0)
-    (found_over c.in-Some-next.ensures.row c.loop-row.invariant c.in_ok-extended.ensures c.in-Some-2.is c.in_err-search-in-Some-2.field-0.0
-    c.in_err-search-in-Some-2.ensures.wide))
+    (found_over {terms = terms} {triples = c.args.view.now} {pattern = c.in-Some.pattern.now} {rest = c.in-Some.rest.now} {from = c.args.from.now} c.in-Some-next.ensures.row c.loop-row.invariant c.in_ok-extended.ensures c.in-Some-2.is c.args.patterns.now c.in-Some.ensures.cases.0
+    c.in_err-search-in-Some-2.field-0.0 c.in_err-search-in-Some-2.ensures.wide)
 
 pub loop-row-preserved-in_ok-search-in-Some-2 : goal.loop-row-preserved-in_ok-search-in-Some-2
 loop-row-preserved-in_ok-search-in-Some-2 g t c =
@@ -69,7 +65,4 @@ loop-row-preserved g t c =
     c.search.ensures.reads c.in_ok-search-in-Some-2.ensures.ok c.in_ok-search-in-Some-2.ensures.narrow
 
 pub returns-clause-ok : goal.returns-clause-ok
-returns-clause-ok g t c =
-    let terms = g.T.TermTable.terms c.args.table.now in
-    subst (λ (ps : List PatternTriple). AreExactly (IsOfOrReached c.args.found.now terms c.args.view.now ps c.args.from.now) c.loop-row.found) (sym c.in-Some.ensures.cases.0)
-    (searched_all c.in_default-next.ensures.row.0 c.loop-row.invariant)
+returns-clause-ok g t c = searched_all c.args.patterns.now c.in-Some.ensures.cases.0 c.in_default-next.ensures.row.0 c.loop-row.invariant
