@@ -1,0 +1,6 @@
+mod Counts
+mod RowsOfOperators
+mod Sides
+mod Rooms
+mod TakenRows
+mod Projections

@@ -1,0 +1,9 @@
+use Rattle.std.proofs.Common.{Contains}
+use Rattle.sparql_algebra.specs.Merged.{IsJoined}
+use Rattle.sparql_algebra.specs.TermSolutions.{id_var}
+use Rattle.query_eval.proofs.TakenRows.{taken_rows}
+use Rattle.query_eval.proofs.operators.join.Goals as goal
+
+pub returns : goal.returns
+returns c = taken_rows (IsJoined id_var (Contains c.args.left.now) (Contains c.args.right.now)) c.args.room.now c.taken.new.room c.in_ok-rows.rows c.taken.result
+    c.in_ok-rows.ensures.rows c.taken.ensures.same c.taken.ensures.distinct c.taken.ensures.rising c.taken.ensures.room

@@ -1,0 +1,9 @@
+//! Answers to queries over a view of the graph.
+#![tactic(auto)]
+
+mod evaluate;
+mod operators;
+mod query;
+mod taken;
+
+pub use query::answer;

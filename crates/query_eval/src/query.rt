@@ -1,0 +1,43 @@
+//! The answer to a query.
+ghost use Rattle.std.specs.Prelude.{◌≤◌, ◌+◌, IfOk, IfErr, OnOk};
+ghost use Rattle.sparql_algebra.specs.Listed.{width_of};
+ghost use Rattle.sparql_algebra.specs.Valid.{IsValid};
+ghost use Rattle.pattern_join.specs.Answers.{IsOverwide};
+ghost use Rattle.pattern_join.specs.Meaning.{graph_in, AreMeant};
+ghost use Rattle.query_eval.specs.Answered.{AreAnswer};
+ghost use Rattle.query_eval.specs.Reads.{reads};
+
+use crate::evaluate::evaluate;
+use m3_terms::{Steps, TermId, TermTable};
+use pattern_join::{EvalFault, WIDTH_LIMIT};
+use sparql_algebra::{IdRows, Query, project_rows};
+use std::alloc::Global;
+use std::sync::ledger::Ledger;
+use triple_index::View;
+
+/// The answer to a query over the graph of a view, from scratch: the projections of its solutions to the columns, each
+/// once, by the numbers that the table gives to their terms.
+///
+/// The solutions of each part are listed, from the basic graph patterns upwards. All lists together have at most
+/// `WIDTH_LIMIT` rows; at the first row over it the answer is `TooWide`, unless memory ran out before. The depth of the
+/// calls is that of the pattern.
+pub fn answer<T: TermTable, L: Ledger>(
+    alloc: Global,
+    view: &View<'_, L>,
+    table: &T,
+    query: &Query,
+    steps: &mut Steps<L>,
+) -> Result<IdRows, EvalFault>
+    requires triples { AreMeant (T.terms table.now) view.now }
+    requires valid { IsValid query.now }
+    ensures rows { IfOk result (AreAnswer (T.terms table.now) query.now (graph_in (T.terms table.now) view.now)) }
+    ensures narrow { OnOk result (width_of query.now.pattern (graph_in (T.terms table.now) view.now) ≤ 65536) }
+    ensures wide { IfErr result (IsOverwide (width_of query.now.pattern (graph_in (T.terms table.now) view.now))) }
+    ensures reads { steps.new ≤ steps.old + reads query.now.pattern (graph_in (T.terms table.now) view.now) }
+{
+    // No two numbers have one term, whichever is asked for.
+    table.term_of(TermId(0));
+    let mut room = WIDTH_LIMIT;
+    let rows = evaluate(alloc, view, table, &query.pattern, &mut room, steps)?;
+    Ok(project_rows(alloc, &rows, &query.columns)?)
+}
