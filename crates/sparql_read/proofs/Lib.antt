@@ -15,3 +15,12 @@ pub mod TokensTaken
 pub mod Tallied
 pub mod NamesGrowing
 pub mod DeclarationsGrowing
+pub mod StringValues
+pub mod PastGrowing
+pub mod DistinctForms
+pub mod TokensJudged
+mod Unescaping
+mod Places
+mod Tellings
+mod OperandTellings
+mod CallTellings

@@ -69,7 +69,7 @@ same_close_paren (Token.Name prefix (byte ∷ local)) = refl
 same_close_paren (Token.Variable name) = refl
 same_close_paren (Token.String value) = refl
 
-same_open_brace : (token : Token) → is_open_brace_word (kind_of token) ≡ is_open_brace token
+pub same_open_brace : (token : Token) → is_open_brace_word (kind_of token) ≡ is_open_brace token
 same_open_brace (Token.Fixed word.OpenBrace) = refl
 same_open_brace (Token.Fixed other) = refl
 same_open_brace (Token.Iri iri) = refl

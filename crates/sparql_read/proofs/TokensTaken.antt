@@ -15,18 +15,18 @@ use Rattle.sparql_read.specs.Leading.{IsWhole, IsFirstUntaken, AreTaken}
 use Rattle.sparql_read.proofs.Completions.{run_both, takes_viable, ends_whole}
 
 -- one more token
-lexes_more : (total : ℕ) (bytes left : List ℕ) (tokens : List Placed) (middle next : List ℕ) (token : Token) (place : ℕ) → Lexes total bytes tokens left → Gap left middle
+pub lexes_more : (total : ℕ) (bytes left : List ℕ) (tokens : List Placed) (middle next : List ℕ) (token : Token) (place : ℕ) → Lexes total bytes tokens left → Gap left middle
     → Begins token middle next → place + length middle ≡ total → Lexes total bytes (tokens ++ record { token = token; place = place } ∷ []) next
 lexes_more total bytes left tokens middle next token place (NoToken b) gap begins at = Goes b middle next token place [] next gap begins at (NoToken next)
 lexes_more total bytes left tokens middle next token place (Goes b m n other p others r g is a more) gap begins at =
     Goes b m n other p (others ++ record { token = token; place = place } ∷ []) next g is a (lexes_more total n r others middle next token place more gap begins at)
 
 -- the tokens alone, and the stack behind one more
-alone_more : (tokens : List Placed) (placed : Placed) → alone (tokens ++ placed ∷ []) ≡ alone tokens ++ placed.token ∷ []
+pub alone_more : (tokens : List Placed) (placed : Placed) → alone (tokens ++ placed ∷ []) ≡ alone tokens ++ placed.token ∷ []
 alone_more [] placed = refl
 alone_more (first ∷ tokens) placed = ap (λ l. first.token ∷ l) (alone_more tokens placed)
 
-stack_more : (tokens : List Token) (token : Token) → stack_behind (tokens ++ token ∷ []) ≡ take_one (stack_behind tokens) (kind_of token)
+pub stack_more : (tokens : List Token) (token : Token) → stack_behind (tokens ++ token ∷ []) ≡ take_one (stack_behind tokens) (kind_of token)
 stack_more tokens token = run_both (Some (Start ∷ [])) tokens (token ∷ [])
 
 -- nothing was taken yet

@@ -104,17 +104,23 @@ term_bytes before (String value) = length value
 term_bytes before (Variable name) = 0
 term_bytes before (Fixed word) = 0
 
--- the first of the counts that passes its limit at a token behind others
+-- the first of these counts that passes its limit: of variables, triple patterns, operators, conditions, what is open, and
+-- the bytes of a term
+abbrev pub first_passed : ℕ → ℕ → ℕ → ℕ → ℕ → ℕ → Option Limit
+first_passed variables patterns operators conditions open_ones term =
+    if nat_lt 16 variables then Some Variables
+    else if nat_lt 32 patterns then Some Patterns
+    else if nat_lt 16 operators then Some Operators
+    else if nat_lt 256 conditions then Some Conditions
+    else if nat_lt 16 open_ones then Some Nesting
+    else if nat_lt 4096 term then Some Term
+    else None
+
+-- the first of the counts that passes its limit at a token behind others, whose own counts are to be within their limits
 abbrev pub passed : List Token → Token → Option Limit
 passed before token =
     let tokens = before ++ token ∷ [] in
-    if nat_lt 16 (variables tokens) then Some Variables
-    else if nat_lt 32 (patterns tokens) then Some Patterns
-    else if nat_lt 16 (count_by is_operator tokens) then Some Operators
-    else if nat_lt 256 (count_by is_condition tokens) then Some Conditions
-    else if nat_lt 16 (nesting tokens) then Some Nesting
-    else if nat_lt 4096 (term_bytes before token) then Some Term
-    else None
+    first_passed (variables tokens) (patterns tokens) (count_by is_operator tokens) (count_by is_condition tokens) (nesting tokens) (term_bytes before token)
 
 -- `{ ?a a <c> , "" ; ?b ?c` has three triple patterns
 example_patterns : patterns (Fixed word.OpenBrace ∷ Variable (97 ∷ []) ∷ Fixed word.A ∷ Iri (99 ∷ []) ∷ Fixed word.Comma ∷ String [] ∷ Fixed word.Semicolon

@@ -15,3 +15,9 @@ pub mod Faults
 pub mod Leading
 pub mod Tallying
 pub mod Naming
+pub mod Past
+pub mod Judging
+pub mod Values
+pub mod Scoped
+pub mod Telling
+pub mod Calls

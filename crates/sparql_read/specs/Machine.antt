@@ -42,11 +42,6 @@ abbrev pub at_argument : List Symbol → Kind → Step
 at_argument symbols kind.String = Some symbols
 at_argument symbols kind = at_subject symbols kind
 
--- this word
-abbrev pub at_variable : List Symbol → Kind → Step
-at_variable symbols kind.Variable = Some symbols
-at_variable symbols other = None
-
 -- an element of a group, or the group's end
 abbrev pub at_element : Kind → Step
 at_element (kind.Fixed word.OpenBrace) = Some (Group ∷ Alts ∷ [])

@@ -41,7 +41,7 @@ ReadsColumns scope (Some []) = λ tokens rest. ⊥
 ReadsColumns scope (Some (var ∷ vars)) = One (as_variable scope) var then Many (One (as_variable scope)) vars
 
 -- Query = ( "PREFIX" prefix":" IRI )* "SELECT" "DISTINCT" ( "*" or Var+ ) [ "WHERE" ] Group, and no token behind it; here
--- DISTINCT may lack
+-- DISTINCT may lack, and an undeclared prefix is resolved to its local part, which is refused elsewhere (`IsUndeclared`)
 pub record IsQuery (distinct : Bool) (query : Query) (tokens : List Token) : Type 0 where
   pub declarations : List Declaration
   pub columns : Option (List Number)

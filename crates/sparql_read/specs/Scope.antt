@@ -58,7 +58,8 @@ iri_of declarations prefix = option_map (λ d. d.iri) (find (λ d. text_eq d.pre
 abbrev pub variable_of : Scope → List ℕ → Var
 variable_of scope name = record { 0 = position_or_len (text_eq name) scope.names }
 
--- the IRI of a prefixed name: what its prefix stands for, followed by its local part
+-- the IRI of a prefixed name: what its prefix stands for, followed by its local part; under an undeclared prefix it is the
+-- local part alone, and such a token is refused elsewhere (`IsUndeclared`)
 abbrev pub full_iri : Scope → List ℕ → List ℕ → List ℕ
 full_iri scope prefix local = unwrap_or (iri_of scope.declarations prefix) [] ++ local
 
@@ -70,12 +71,6 @@ type_iri = codes "http://www.w3.org/1999/02/22-rdf-syntax-ns#type"
 abbrev pub as_variable : Scope → Token → Option Var
 as_variable scope (Variable name) = Some (variable_of scope name)
 as_variable scope other = None
-
--- Iri = IRI or a prefixed name
-abbrev pub as_iri : Scope → Token → Option (List ℕ)
-as_iri scope (Iri iri) = Some iri
-as_iri scope (Name prefix local) = Some (full_iri scope prefix local)
-as_iri scope other = None
 
 -- Var or Iri, the subject of a triple pattern
 abbrev pub as_subject : Scope → Token → Option Place

@@ -1,0 +1,16 @@
+use Rattle.sparql_read.specs.declared.word.Word.TheVariants as word
+use Rattle.sparql_read.specs.Scoped.{scope_in}
+use Rattle.sparql_read.specs.Values.{tokens_of}
+use Rattle.sparql_read.specs.Telling.{Whatever}
+use Rattle.sparql_read.specs.Calls.{ReadsParts}
+use Rattle.sparql_read.proofs.Tellings.{no_word, word_told}
+use Rattle.sparql_read.proofs.calls.both_operands.Goals as goal
+
+pub returns-in_default : goal.returns-in_default
+returns-in_default c =
+    no_word word.OpenParen (ReadsParts (scope_in c.args.names)) Whatever (tokens_of c.args.lexemes.now) (rw c.in_default.is at c.behind_word.ensures)
+
+pub returns : goal.returns
+returns c =
+    word_told word.OpenParen (ReadsParts (scope_in c.args.names)) Whatever c.args.lexemes.now c.in-Some.rest.now c.in_ok-found.found
+    (rw c.in-Some.is at c.behind_word.ensures).reads c.in_ok-found.ensures
