@@ -18,9 +18,9 @@ use triple_index::View;
 /// The answer to a query over the graph of a view, from scratch: the projections of its solutions to the columns, each
 /// once, by the numbers that the table gives to their terms.
 ///
-/// The solutions of each part are listed, from the basic graph patterns upwards. All lists together have at most
-/// `WIDTH_LIMIT` rows; at the first row over it the answer is `TooWide`, unless memory ran out before. The depth of the
-/// calls is that of the pattern.
+/// The solutions of each part are listed, from the basic graph patterns upwards. Where all lists together would have more
+/// than `WIDTH_LIMIT` rows the answer is `TooWide`, unless memory ran out before; one basic graph pattern is listed up to
+/// that limit before it is compared with what is left. The depth of the calls is that of the pattern.
 pub fn answer<T: TermTable, L: Ledger>(
     alloc: Global,
     view: &View<'_, L>,

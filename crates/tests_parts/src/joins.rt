@@ -230,7 +230,7 @@ const SOLVED: &[Solved] = &[
     },
 ];
 
-fn uris(alloc: Global, texts: &[&[u8]]) -> Result<Interner, Fail> {
+pub(crate) fn uris(alloc: Global, texts: &[&[u8]]) -> Result<Interner, Fail> {
     let mut terms = TermList::new(alloc);
     for text in texts {
         terms.push(Term::uri(alloc, text)?)?;
@@ -317,7 +317,11 @@ fn is_meant<T: TermTable>(table: &T, triple: &IdTriple) -> bool
 }
 
 /// Whether each triple of a view means a triple.
-fn are_meant<T: TermTable, L: Ledger>(view: &View<'_, L>, table: &T, steps: &mut Steps<L>) -> bool
+pub(crate) fn are_meant<T: TermTable, L: Ledger>(
+    view: &View<'_, L>,
+    table: &T,
+    steps: &mut Steps<L>,
+) -> bool
     ensures { IsTrue result → AreMeant (T.terms table.now) view.now }
 {
     let mut rows = view.rows(&IdPattern {

@@ -14,6 +14,8 @@ mod links;
 #[cfg(test)]
 mod outside;
 #[cfg(test)]
+mod queries;
+#[cfg(test)]
 mod scripts;
 #[cfg(test)]
 mod terms;

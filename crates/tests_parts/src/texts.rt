@@ -1,5 +1,7 @@
-//! Texts of queries: how far their tokens lead.
-use sparql_read::{Led, lead};
+//! Texts of queries: how far their tokens lead, and what faults in them.
+use m3_terms::NoMemory;
+use sparql_read::{Judged, Led, Limit, judge, lead};
+use std::alloc::Global;
 use std::test::Fail;
 
 /// A text, and how far its tokens lead.
@@ -47,5 +49,74 @@ fn other_texts_are_led_to_their_fault(rt: HostRuntime) -> Result<(), Fail> {
         let led = lead(rt.alloc(), text)?;
         assert_eq!(rt; led, expected);
     }
+    Ok(())
+}
+
+/// A text, and what is judged of it.
+type Verdict = (&'static [u8], Judged);
+
+const VERDICTS: [Verdict; 9] = [
+    (b"SELECT DISTINCT * {}", Judged::Fine { distinct: true }),
+    (b"SELECT ?s { ?s ?p ?o }", Judged::Fine { distinct: false }),
+    (b"SELECTED", Judged::NotInProfile { place: 6 }),
+    (
+        b"SELECT DISTINCT ?s { ?s ?p _:b }",
+        Judged::NotInProfile { place: 27 },
+    ),
+    (
+        b"SELECT DISTINCT * { ?s p:q ?o }",
+        Judged::NotInProfile { place: 23 },
+    ),
+    (
+        b"PREFIX p: <i> SELECT DISTINCT * { ?s p:q ?o }",
+        Judged::Fine { distinct: true },
+    ),
+    (b"SELECT DISTINCT * ", Judged::NotInProfile { place: 18 }),
+    (
+        b"SELECT DISTINCT * {{{{{{{{{{{{{{{{{}}}}}}}}}}}}}}}}}",
+        Judged::OverLimit {
+            which: Limit::Nesting,
+            place: 34,
+        },
+    ),
+    (
+        b"SELECT DISTINCT ?a?b?c?d?e?f?g?h?i?j?k?l?m?n?o?p?q {}",
+        Judged::OverLimit {
+            which: Limit::Variables,
+            place: 48,
+        },
+    ),
+];
+
+#[test]
+fn texts_are_judged(rt: HostRuntime) -> Result<(), Fail> {
+    for (text, expected) in VERDICTS {
+        let judged = judge(rt.alloc(), text)?;
+        assert_eq!(rt; judged, expected);
+    }
+    Ok(())
+}
+
+// A text with so many conditions.
+fn filters(alloc: Global, count: usize) -> Result<Vec<u8>, NoMemory> {
+    let mut text = Vec::new(alloc);
+    text.extend_from_slice(b"SELECT DISTINCT * {")?;
+    for _ in 0..count {
+        text.extend_from_slice(b"FILTER(\"\")")?;
+    }
+    text.extend_from_slice(b"}")?;
+    Ok(text)
+}
+
+#[test]
+fn conditions_have_a_limit(rt: HostRuntime) -> Result<(), Fail> {
+    let alloc = rt.alloc();
+    let most = filters(alloc, 256)?;
+    let judged = judge(alloc, most.as_slice())?;
+    assert_eq!(rt; judged, Judged::Fine { distinct: true });
+    let more = filters(alloc, 257)?;
+    let judged = judge(alloc, more.as_slice())?;
+    let which = Limit::Conditions;
+    assert_eq!(rt; judged, Judged::OverLimit { which, place: 2579 });
     Ok(())
 }
