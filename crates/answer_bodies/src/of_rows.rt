@@ -99,9 +99,9 @@ fn ordered_lines<T: TermTable>(
     variables: &VarList,
     table: &T,
 ) -> Result<Rows, NoMemory>
-    requires bound { AreBoundAmong variables.now rows.now }
-    requires named { AreNamed (T.terms table.now) rows.now }
-    ensures { IfOk result (IsOrdered row_cmp (map (row_of (T.terms table.now) variables.now) rows.now)) }
+    requires bound { AreBoundAmong variables.now rows.now.rows }
+    requires named { AreNamed (T.terms table.now) rows.now.rows }
+    ensures { IfOk result (IsOrdered row_cmp (map (row_of (T.terms table.now) variables.now) rows.now.rows)) }
 {
     names_once(table);
     let unordered = lines(alloc, rows.as_slice(), variables, table)?;
@@ -115,8 +115,8 @@ impl Answer {
         rows: &IdRows,
         table: &T,
     ) -> Result<Answer, NoMemory>
-        requires rows { AreTripleRows (T.terms table.now) rows.now }
-        ensures triples { IfOk result (IsOfTriples (T.terms table.now) rows.now) }
+        requires rows { AreTripleRows (T.terms table.now) rows.now.rows }
+        ensures triples { IfOk result (IsOfTriples (T.terms table.now) rows.now.rows) }
         ensures full { IfOk result IsFull }
     {
         names_once(table);
@@ -134,9 +134,9 @@ impl Answer {
         table: &T,
     ) -> Result<Answer, NoMemory>
         requires one_length { length columns.now ≡ length variables.now }
-        requires bound { AreBoundAmong variables.now rows.now }
-        requires named { AreNamed (T.terms table.now) rows.now }
-        ensures table { IfOk result (IsOfRows (T.terms table.now) columns.now variables.now rows.now) }
+        requires bound { AreBoundAmong variables.now rows.now.rows }
+        requires named { AreNamed (T.terms table.now) rows.now.rows }
+        ensures table { IfOk result (IsOfRows (T.terms table.now) columns.now variables.now rows.now.rows) }
         ensures full { IfOk result IsFull }
     {
         Ok(Answer::Table {

@@ -36,8 +36,8 @@ pub fn bgp_all<T: TermTable, L: Ledger>(
 ) -> Result<IdRows, EvalFault>
     requires triples { AreMeant (T.terms table.now) view.now }
     requires variables { AllByRecursion (HasNamedTriple 16) bgp.now }
-    ensures solutions { IfOk result (AreSolutions (T.terms table.now) (IsBgpSolution bgp.now (graph_in (T.terms table.now) view.now))) }
-    ensures narrow { IfOk result (λ rows. length rows ≤ 65536) }
+    ensures solutions { IfOk result (λ rows. AreSolutions (T.terms table.now) (IsBgpSolution bgp.now (graph_in (T.terms table.now) view.now)) rows.rows) }
+    ensures narrow { IfOk result (λ rows. length rows.rows ≤ 65536) }
     ensures wide { IfErr result (WhyNoRows (StandsFor (T.terms table.now) (IsBgpSolution bgp.now (graph_in (T.terms table.now) view.now)))) }
     ensures reads { steps.new ≤ steps.old + scan bgp.now [] (graph_in (T.terms table.now) view.now) }
 {
@@ -58,15 +58,15 @@ fn search<T: TermTable, L: Ledger>(
     table: &T,
     steps: &mut Steps<L>,
 ) -> Result<(), EvalFault>
-    requires narrow { length found.old ≤ 65536 }
+    requires narrow { length found.old.rows ≤ 65536 }
     requires rising { IsRising id_var from.now }
     requires named { HasTerms (T.terms table.now) from.now }
     requires once { NamesOnce (T.terms table.now) }
     requires triples { AreMeant (T.terms table.now) view.now }
     requires variables { AllByRecursion (HasNamedTriple 16) patterns.now }
-    ensures ok { OnOk result (AreExactly (IsOfOrReached found.old (T.terms table.now) view.now patterns.now from.now) found.new) }
-    ensures narrow { OnOk result (length found.new ≤ 65536) }
-    ensures wide { IfErr result (WhyNoRows (IsOfOrReached found.old (T.terms table.now) view.now patterns.now from.now)) }
+    ensures ok { OnOk result (AreExactly (IsOfOrReached found.old.rows (T.terms table.now) view.now patterns.now from.now) found.new.rows) }
+    ensures narrow { OnOk result (length found.new.rows ≤ 65536) }
+    ensures wide { IfErr result (WhyNoRows (IsOfOrReached found.old.rows (T.terms table.now) view.now patterns.now from.now)) }
     ensures reads { steps.new ≤ steps.old + scan patterns.now (solution_in (T.terms table.now) from.now) (graph_in (T.terms table.now) view.now) }
 {
     let Some((pattern, rest)) = patterns.split_first() else {

@@ -11,7 +11,7 @@ use Rattle.sparql_algebra.specs.declared.pattern.PatternTriple.{PatternTriple}
 use Rattle.sparql_algebra.specs.Evaluation.{IsSolution}
 use Rattle.sparql_algebra.specs.Patterns.{IsBgpSolution}
 use Rattle.sparql_algebra.specs.RowSets.{AreMoreThan}
-use Rattle.sparql_algebra.specs.Solutions.{solution_eq, AreRising}
+use Rattle.sparql_algebra.specs.Solutions.{RowList, solution_eq, AreRising}
 use Rattle.sparql_algebra.specs.TermSolutions.{Solution}
 use Rattle.sparql_algebra.specs.Width.{HasCount}
 use Rattle.sparql_algebra.proofs.Gathered.{more_than}
@@ -83,9 +83,9 @@ module _ (terms : ℕ → Option Term) (once : NamesOnce terms) (graph : List Tr
         over NoMemory m = tt
 
         -- the part from both sides
-        pub finished : (r3 : ℕ) (result : Result (List (List Binding)) EvalFault) → MatchResult result (AreTaken r2 r3 Rows) (WhyNotTaken r2 Rows)
-            → MatchResult result (AreEvaluated terms graph self r0 r3) (WhyNotEvaluated graph self r0)
-        finished r3 result m = MatchResult-weaker result m (evaluated r3) over
+        pub finished : (r3 : ℕ) (result : Result RowList EvalFault) → MatchResult result (λ l. AreTaken r2 r3 Rows l.rows) (WhyNotTaken r2 Rows)
+            → MatchResult result (λ l. AreEvaluated terms graph self r0 r3 l.rows) (WhyNotEvaluated graph self r0)
+        finished r3 result m = MatchResult-weaker result m (λ l. evaluated r3 l.rows) over
 
   module _ {self inner : Algebra} (side : HasSide graph self inner) where
     -- where the side is too wide, the part is
@@ -117,9 +117,9 @@ module _ (terms : ℕ → Option Term) (once : NamesOnce terms) (graph : List Tr
       over_inner NoMemory m = tt
 
       -- the part from its side
-      pub finished_inner : (r2 : ℕ) (result : Result (List (List Binding)) EvalFault) → MatchResult result (AreTaken r1 r2 Rows) (WhyNotTaken r1 Rows)
-          → MatchResult result (AreEvaluated terms graph self r0 r2) (WhyNotEvaluated graph self r0)
-      finished_inner r2 result m = MatchResult-weaker result m (evaluated_inner r2) over_inner
+      pub finished_inner : (r2 : ℕ) (result : Result RowList EvalFault) → MatchResult result (λ l. AreTaken r1 r2 Rows l.rows) (WhyNotTaken r1 Rows)
+          → MatchResult result (λ l. AreEvaluated terms graph self r0 r2 l.rows) (WhyNotEvaluated graph self r0)
+      finished_inner r2 result m = MatchResult-weaker result m (λ l. evaluated_inner r2 l.rows) over_inner
 
   module _ (patterns : List PatternTriple) where
     -- a basic graph pattern, where its rows fit into the room

@@ -31,7 +31,7 @@ pub(crate) fn evaluate<T: TermTable, L: Ledger>(
     requires triples { AreMeant (T.terms table.now) view.now }
     requires variables { HasFewNames pattern.now }
     requires room { room.old ≤ 65536 }
-    ensures part { MatchResult result (AreEvaluated (T.terms table.now) (graph_in (T.terms table.now) view.now) pattern.now room.old room.new) (WhyNotEvaluated (graph_in (T.terms table.now) view.now) pattern.now room.old) }
+    ensures part { MatchResult result (λ rows. AreEvaluated (T.terms table.now) (graph_in (T.terms table.now) view.now) pattern.now room.old room.new rows.rows) (WhyNotEvaluated (graph_in (T.terms table.now) view.now) pattern.now room.old) }
     ensures reads { steps.new ≤ steps.old + reads pattern.now (graph_in (T.terms table.now) view.now) }
 {
     match pattern {
@@ -71,7 +71,7 @@ fn basic<T: TermTable, L: Ledger>(
     requires triples { AreMeant (T.terms table.now) view.now }
     requires variables { AllByRecursion (HasNamedTriple 16) bgp.now }
     requires room { room.old ≤ 65536 }
-    ensures part { MatchResult result (AreEvaluated (T.terms table.now) (graph_in (T.terms table.now) view.now) (Algebra.Bgp bgp.now) room.old room.new) (WhyNotEvaluated (graph_in (T.terms table.now) view.now) (Algebra.Bgp bgp.now) room.old) }
+    ensures part { MatchResult result (λ rows. AreEvaluated (T.terms table.now) (graph_in (T.terms table.now) view.now) (Algebra.Bgp bgp.now) room.old room.new rows.rows) (WhyNotEvaluated (graph_in (T.terms table.now) view.now) (Algebra.Bgp bgp.now) room.old) }
     ensures reads { steps.new ≤ steps.old + scan bgp.now [] (graph_in (T.terms table.now) view.now) }
 {
     let rows = bgp_all(alloc, view, table, bgp, steps)?;

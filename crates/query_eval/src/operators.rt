@@ -18,7 +18,7 @@ pub(crate) fn join(
     right: &IdRows,
     room: &mut usize,
 ) -> Result<IdRows, EvalFault>
-    ensures { MatchResult result (AreTaken room.old room.new (IsJoined id_var (Contains left.now) (Contains right.now))) (WhyNotTaken room.old (IsJoined id_var (Contains left.now) (Contains right.now))) }
+    ensures { MatchResult result (λ rows. AreTaken room.old room.new (IsJoined id_var (Contains left.now.rows) (Contains right.now.rows)) rows.rows) (WhyNotTaken room.old (IsJoined id_var (Contains left.now.rows) (Contains right.now.rows))) }
 {
     let rows = join_rows(alloc, left, right, *room)?;
     Ok(taken(rows, room))
@@ -31,7 +31,7 @@ pub(crate) fn union(
     right: &IdRows,
     room: &mut usize,
 ) -> Result<IdRows, EvalFault>
-    ensures { MatchResult result (AreTaken room.old room.new (IsOfEither left.now right.now)) (WhyNotTaken room.old (IsOfEither left.now right.now)) }
+    ensures { MatchResult result (λ rows. AreTaken room.old room.new (IsOfEither left.now.rows right.now.rows) rows.rows) (WhyNotTaken room.old (IsOfEither left.now.rows right.now.rows)) }
 {
     let rows = union_rows(alloc, left, right, *room)?;
     Ok(taken(rows, room))
@@ -46,7 +46,7 @@ pub(crate) fn left_join<T: TermTable>(
     table: &T,
     room: &mut usize,
 ) -> Result<IdRows, EvalFault>
-    ensures { MatchResult result (AreTaken room.old room.new (IsLeftJoined id_var (Contains left.now) (Contains right.now) (RowPasses (T.terms table.now) (option_copied condition.entry)))) (WhyNotTaken room.old (IsLeftJoined id_var (Contains left.now) (Contains right.now) (RowPasses (T.terms table.now) (option_copied condition.entry)))) }
+    ensures { MatchResult result (λ rows. AreTaken room.old room.new (IsLeftJoined id_var (Contains left.now.rows) (Contains right.now.rows) (RowPasses (T.terms table.now) (option_copied condition.entry))) rows.rows) (WhyNotTaken room.old (IsLeftJoined id_var (Contains left.now.rows) (Contains right.now.rows) (RowPasses (T.terms table.now) (option_copied condition.entry)))) }
 {
     let rows = left_join_rows(alloc, left, right, condition, table, *room)?;
     Ok(taken(rows, room))
@@ -60,7 +60,7 @@ pub(crate) fn filter<T: TermTable>(
     table: &T,
     room: &mut usize,
 ) -> Result<IdRows, EvalFault>
-    ensures { MatchResult result (AreTaken room.old room.new (IsFiltered (T.terms table.now) condition.now (Contains inner.now))) (WhyNotTaken room.old (IsFiltered (T.terms table.now) condition.now (Contains inner.now))) }
+    ensures { MatchResult result (λ rows. AreTaken room.old room.new (IsFiltered (T.terms table.now) condition.now (Contains inner.now.rows)) rows.rows) (WhyNotTaken room.old (IsFiltered (T.terms table.now) condition.now (Contains inner.now.rows))) }
 {
     let rows = filter_rows(alloc, condition, inner, table, *room)?;
     Ok(taken(rows, room))

@@ -30,7 +30,7 @@ pub fn answer<T: TermTable, L: Ledger>(
 ) -> Result<IdRows, EvalFault>
     requires triples { AreMeant (T.terms table.now) view.now }
     requires valid { IsValid query.now }
-    ensures rows { IfOk result (AreAnswer (T.terms table.now) query.now (graph_in (T.terms table.now) view.now)) }
+    ensures rows { IfOk result (λ rows. AreAnswer (T.terms table.now) query.now (graph_in (T.terms table.now) view.now) rows.rows) }
     ensures narrow { OnOk result (width_of query.now.pattern (graph_in (T.terms table.now) view.now) ≤ 65536) }
     ensures wide { IfErr result (IsOverwide (width_of query.now.pattern (graph_in (T.terms table.now) view.now))) }
     ensures reads { steps.new ≤ steps.old + reads query.now.pattern (graph_in (T.terms table.now) view.now) }

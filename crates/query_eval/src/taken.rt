@@ -7,11 +7,11 @@ use sparql_algebra::IdRows;
 
 // The same rows, whose number is taken off the room.
 pub(crate) fn taken(rows: IdRows, room: &mut usize) -> IdRows
-    requires { length rows ≤ room.old }
+    requires { length rows.rows ≤ room.old }
     ensures same { result ≡ rows }
-    ensures room { room.new + length rows ≡ room.old }
-    ensures distinct { IsDistinct solution_eq rows }
-    ensures rising { AreRising rows }
+    ensures room { room.new + length rows.rows ≡ room.old }
+    ensures distinct { IsDistinct solution_eq rows.rows }
+    ensures rising { AreRising rows.rows }
 {
     let count = rows.as_slice().len();
     *room -= count;

@@ -148,7 +148,7 @@ column_at : (var first : Var) (rest : List Var) (same : Bool) → nat_eq first.0
 column_at var first rest true e next h = subst (Contains (first ∷ rest)) (λ i. record { 0 = eqb-true first.0 var.0 e i }) (head_in first rest)
 column_at var first rest false e next h = tail_in first rest var (next h)
 
-is_among : (columns : List Var) (var : Var) → is_column columns var ≡ true → Contains columns var
+pub is_among : (columns : List Var) (var : Var) → is_column columns var ≡ true → Contains columns var
 is_among [] var h = absurd (cc)
 is_among (c ∷ columns) var h = column_at var c columns _ refl (is_among columns var) h
 

@@ -11,6 +11,11 @@ use Rattle.m3_terms.specs.declared.table.TermId.{TermId}
 use Rattle.sparql_algebra.specs.declared.var.Var.{Var}
 use Rattle.sparql_algebra.specs.declared.mapping.Binding.{Binding}
 
+-- what contracts see of a list of rows: the rows, and how many more fit without memory
+pub record RowList : Type 0 where
+  pub rows : List (List Binding)
+  pub room : ℕ
+
 -- bindings are ordered by their variables
 abbrev pub var_cmp : Binding → Binding → Ordering
 var_cmp = on (λ b. b.var.0) nat_cmp

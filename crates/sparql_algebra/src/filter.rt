@@ -15,9 +15,9 @@ pub fn filter_rows<T: TermTable>(
     table: &T,
     most: usize,
 ) -> Result<IdRows, RowsFault>
-    ensures rows { IfOk result (AreExactly (IsFiltered (T.terms table.now) condition.now (Contains rows.now))) }
-    ensures few { IfOk result (λ kept. length kept ≤ most) }
-    ensures fault { IfErr result (WhyNone most (IsFiltered (T.terms table.now) condition.now (Contains rows.now))) }
+    ensures rows { IfOk result (λ kept. AreExactly (IsFiltered (T.terms table.now) condition.now (Contains rows.now.rows)) kept.rows) }
+    ensures few { IfOk result (λ kept. length kept.rows ≤ most) }
+    ensures fault { IfErr result (WhyNone most (IsFiltered (T.terms table.now) condition.now (Contains rows.now.rows))) }
 {
     let mut kept = IdRows::new(alloc);
     for row in rows.as_slice() {

@@ -28,7 +28,7 @@ impl IdRows {
 
     // Appends a row unless it is here.
     pub(crate) fn gather(&mut self, row: Mapping) -> Result<(), NoMemory>
-        ensures { OnOk result (AreExactly (IsOfOr self.old row) self.new) }
+        ensures { OnOk result (AreExactly (IsOfOr self.old.rows row) self.new.rows) }
     {
         if self.contains(&row) {
             return Ok(());
@@ -39,10 +39,10 @@ impl IdRows {
 
     /// Appends a row unless it is here. `TooMany` comes exactly where there would be more than `most`.
     pub fn gather_within(&mut self, row: Mapping, most: usize) -> Result<(), RowsFault>
-        requires { length self.old ≤ most }
-        ensures ok { OnOk result (AreExactly (IsOfOr self.old row) self.new) }
-        ensures few { OnOk result (length self.new ≤ most) }
-        ensures fault { IfErr result (WhyNone most (IsOfOr self.old row)) }
+        requires { length self.old.rows ≤ most }
+        ensures ok { OnOk result (AreExactly (IsOfOr self.old.rows row) self.new.rows) }
+        ensures few { OnOk result (length self.new.rows ≤ most) }
+        ensures fault { IfErr result (WhyNone most (IsOfOr self.old.rows row)) }
     {
         if self.contains(&row) {
             return Ok(());

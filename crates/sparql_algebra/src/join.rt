@@ -18,9 +18,9 @@ pub fn join_rows(
     right: &IdRows,
     most: usize,
 ) -> Result<IdRows, RowsFault>
-    ensures rows { IfOk result (AreExactly (IsJoined id_var (Contains left.now) (Contains right.now))) }
-    ensures few { IfOk result (λ rows. length rows ≤ most) }
-    ensures fault { IfErr result (WhyNone most (IsJoined id_var (Contains left.now) (Contains right.now))) }
+    ensures rows { IfOk result (λ rows. AreExactly (IsJoined id_var (Contains left.now.rows) (Contains right.now.rows)) rows.rows) }
+    ensures few { IfOk result (λ rows. length rows.rows ≤ most) }
+    ensures fault { IfErr result (WhyNone most (IsJoined id_var (Contains left.now.rows) (Contains right.now.rows))) }
 {
     let mut rows = IdRows::new(alloc);
     let near = Near::new(alloc, left, right)?;

@@ -21,9 +21,9 @@ pub fn left_join_rows<T: TermTable>(
     table: &T,
     most: usize,
 ) -> Result<IdRows, RowsFault>
-    ensures rows { IfOk result (AreExactly (IsLeftJoined id_var (Contains left.now) (Contains right.now) (RowPasses (T.terms table.now) (option_copied condition.entry)))) }
-    ensures few { IfOk result (λ rows. length rows ≤ most) }
-    ensures fault { IfErr result (WhyNone most (IsLeftJoined id_var (Contains left.now) (Contains right.now) (RowPasses (T.terms table.now) (option_copied condition.entry)))) }
+    ensures rows { IfOk result (λ rows. AreExactly (IsLeftJoined id_var (Contains left.now.rows) (Contains right.now.rows) (RowPasses (T.terms table.now) (option_copied condition.entry))) rows.rows) }
+    ensures few { IfOk result (λ rows. length rows.rows ≤ most) }
+    ensures fault { IfErr result (WhyNone most (IsLeftJoined id_var (Contains left.now.rows) (Contains right.now.rows) (RowPasses (T.terms table.now) (option_copied condition.entry)))) }
 {
     let mut rows = IdRows::new(alloc);
     let near = Near::new(alloc, left, right)?;
@@ -43,10 +43,10 @@ fn gather_left<T: TermTable>(
     table: &T,
     most: usize,
 ) -> Result<(), RowsFault>
-    requires { length rows.old ≤ most }
-    ensures ok { OnOk result (AreExactly (IsOfOrLeft rows.old left.now (Contains others.now) (RowPasses (T.terms table.now) (option_copied condition.entry))) rows.new) }
-    ensures few { OnOk result (length rows.new ≤ most) }
-    ensures fault { IfErr result (WhyNone most (IsOfOrLeft rows.old left.now (Contains others.now) (RowPasses (T.terms table.now) (option_copied condition.entry)))) }
+    requires { length rows.old.rows ≤ most }
+    ensures ok { OnOk result (AreExactly (IsOfOrLeft rows.old.rows left.now (Contains others.now) (RowPasses (T.terms table.now) (option_copied condition.entry))) rows.new.rows) }
+    ensures few { OnOk result (length rows.new.rows ≤ most) }
+    ensures fault { IfErr result (WhyNone most (IsOfOrLeft rows.old.rows left.now (Contains others.now) (RowPasses (T.terms table.now) (option_copied condition.entry)))) }
 {
     let found = gather_passing(rows, left, others, condition, table, most)?;
     if !found {

@@ -24,9 +24,9 @@ pub(crate) struct Near {
 impl Near {
     // The solutions of the right side, in groups by the variables that every solution of both sides binds.
     pub(crate) fn new(alloc: Global, left: &IdRows, right: &IdRows) -> Result<Near, NoMemory>
-        ensures grouped { IfOk result (λ near. AreGrouped near.columns right.now (get solution_eq near.groups)) }
-        ensures left { IfOk result (λ near. BindAll near.columns left.now) }
-        ensures right { IfOk result (λ near. BindAll near.columns right.now) }
+        ensures grouped { IfOk result (λ near. AreGrouped near.columns right.now.rows (get solution_eq near.groups)) }
+        ensures left { IfOk result (λ near. BindAll near.columns left.now.rows) }
+        ensures right { IfOk result (λ near. BindAll near.columns right.now.rows) }
     {
         let columns = shared(alloc, left.as_slice(), right.as_slice())?;
         let groups = grouped(alloc, right.as_slice(), &columns)?;

@@ -15,11 +15,11 @@ pub(crate) fn gather_passing<T: TermTable>(
     table: &T,
     most: usize,
 ) -> Result<bool, RowsFault>
-    requires { length rows.old ≤ most }
-    ensures ok { OnOk result (AreExactly (IsOfOrPassing rows.old left.now (Contains others.now) (RowPasses (T.terms table.now) (option_copied condition.entry))) rows.new) }
-    ensures few { OnOk result (length rows.new ≤ most) }
+    requires { length rows.old.rows ≤ most }
+    ensures ok { OnOk result (AreExactly (IsOfOrPassing rows.old.rows left.now (Contains others.now) (RowPasses (T.terms table.now) (option_copied condition.entry))) rows.new.rows) }
+    ensures few { OnOk result (length rows.new.rows ≤ most) }
     ensures found { IfOk result (λ found. TellsPassing found left.now (Contains others.now) (RowPasses (T.terms table.now) (option_copied condition.entry))) }
-    ensures fault { IfErr result (WhyNone most (IsOfOrPassing rows.old left.now (Contains others.now) (RowPasses (T.terms table.now) (option_copied condition.entry)))) }
+    ensures fault { IfErr result (WhyNone most (IsOfOrPassing rows.old.rows left.now (Contains others.now) (RowPasses (T.terms table.now) (option_copied condition.entry)))) }
 {
     let mut found = false;
     for right in others {

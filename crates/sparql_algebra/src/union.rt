@@ -13,9 +13,9 @@ pub fn union_rows(
     right: &IdRows,
     most: usize,
 ) -> Result<IdRows, RowsFault>
-    ensures rows { IfOk result (AreExactly (IsOfEither left.now right.now)) }
-    ensures few { IfOk result (λ rows. length rows ≤ most) }
-    ensures fault { IfErr result (WhyNone most (IsOfEither left.now right.now)) }
+    ensures rows { IfOk result (λ rows. AreExactly (IsOfEither left.now.rows right.now.rows) rows.rows) }
+    ensures few { IfOk result (λ rows. length rows.rows ≤ most) }
+    ensures fault { IfErr result (WhyNone most (IsOfEither left.now.rows right.now.rows)) }
 {
     let mut rows = IdRows::new(alloc);
     gather_all(&mut rows, left, most)?;
@@ -25,10 +25,10 @@ pub fn union_rows(
 
 // Appends those of some rows that are not here.
 fn gather_all(rows: &mut IdRows, more: &IdRows, most: usize) -> Result<(), RowsFault>
-    requires { length rows.old ≤ most }
-    ensures ok { OnOk result (AreExactly (IsOfEither rows.old more.now) rows.new) }
-    ensures few { OnOk result (length rows.new ≤ most) }
-    ensures fault { IfErr result (WhyNone most (IsOfEither rows.old more.now)) }
+    requires { length rows.old.rows ≤ most }
+    ensures ok { OnOk result (AreExactly (IsOfEither rows.old.rows more.now.rows) rows.new.rows) }
+    ensures few { OnOk result (length rows.new.rows ≤ most) }
+    ensures fault { IfErr result (WhyNone most (IsOfEither rows.old.rows more.now.rows)) }
 {
     for row in more.as_slice() {
         rows.gather_within(row.copy()?, most)?;

@@ -58,6 +58,30 @@ fn rows_are_kept_in_the_order_of_their_adding(rt: HostRuntime) -> Result<(), Fai
 }
 
 #[test]
+fn rows_are_added_where_room_was_reserved(rt: HostRuntime) -> Result<(), Fail> {
+    let alloc = rt.alloc();
+    let mut first = Mapping::new(alloc);
+    first.bind(Var(0), TermId(7))?;
+    let mut rows = one(alloc, 1, 8)?;
+    if rows.contains(&first) {
+        return Err("there".into());
+    }
+    rows.reserve(2)?;
+    let Ok(()) = rows.add(first) else {
+        unreachable!()
+    };
+    let second = Mapping::new(alloc);
+    if rows.contains(&second) {
+        return Err("there".into());
+    }
+    let Ok(()) = rows.add(second) else {
+        unreachable!()
+    };
+    assert_eq!(rt; rows.len(), 3);
+    Ok(())
+}
+
+#[test]
 fn solutions_of_different_variables_are_joined_within_a_limit(rt: HostRuntime) -> Result<(), Fail> {
     let alloc = rt.alloc();
     let left = one(alloc, 0, 7)?;

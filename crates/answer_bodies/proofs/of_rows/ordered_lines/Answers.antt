@@ -14,4 +14,4 @@ sorted-requires g c =
     let slice = c.as_slice.ensures in
     subst (IsDistinct (eq_by_cmp row_cmp)) (sym c.in_ok-unordered.ensures)
     (subst (λ rows. IsDistinct (eq_by_cmp row_cmp) (map (row_of terms variables) rows)) (sym slice.rows)
-    (distinct_cells terms variables c.names_once.ensures c.args.rows.now slice.rising c.requires.bound c.requires.named slice.distinct))
+    (distinct_cells terms variables c.names_once.ensures c.args.rows.now.rows slice.rising c.requires.bound c.requires.named slice.distinct))

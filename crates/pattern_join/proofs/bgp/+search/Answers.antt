@@ -13,20 +13,20 @@ pub returns-in_err-gather_within-clause-wide : goal.returns-in_err-gather_within
 returns-in_err-gather_within-clause-wide g t c =
     let terms = g.T.TermTable.terms c.args.table.now in
     let p = err_from_is_err_and c.from_residual-in_err-gather_within.result c.from_residual-in_err-gather_within.ensures.1 in
-    result_why (IsOfOrReached c.args.found.now terms c.args.view.now c.args.patterns.now c.args.from.now) _ _ p.0 p.1 p.2
-    (itself_over terms c.args.view.now c.args.from.now c.in_ok-copy.field-0 c.in_ok-copy.ensures.equal c.args.found.now c.args.patterns.now
+    result_why (IsOfOrReached c.args.found.now.rows terms c.args.view.now c.args.patterns.now c.args.from.now) _ _ p.0 p.1 p.2
+    (itself_over terms c.args.view.now c.args.from.now c.in_ok-copy.field-0 c.in_ok-copy.ensures.equal c.args.found.now.rows c.args.patterns.now
     c.in_err-gather_within.field-0.0 c.in_default.ensures.cases c.in_err-gather_within.ensures.fault)
 
 pub returns-in_default-clause-ok : goal.returns-in_default-clause-ok
 returns-in_default-clause-ok g t c =
-    itself_found (g.T.TermTable.terms c.args.table.now) c.args.view.now c.args.from.now c.in_ok-copy.field-0 c.in_ok-copy.ensures.equal c.args.found.now c.args.patterns.now
-    c.gather_within.new.self c.in_default.ensures.cases c.in_ok-gather_within.ensures.ok
+    itself_found (g.T.TermTable.terms c.args.table.now) c.args.view.now c.args.from.now c.in_ok-copy.field-0 c.in_ok-copy.ensures.equal c.args.found.now.rows c.args.patterns.now
+    c.gather_within.new.self.rows c.in_default.ensures.cases c.in_ok-gather_within.ensures.ok
 
 pub loop-row-init : goal.loop-row-init
 loop-row-init g t c =
     started (g.T.TermTable.terms c.args.table.now) c.args.view.now c.in-Some.pattern.now c.in-Some.rest.now c.args.from.now (fits c.in-Some-mask_of.mask)
     c.in-Some-mask_of.ensures c.rows-rows.result c.requires.triples c.rows-rows.ensures.rows c.requires.once
-    (record { rising = c.requires.rising; named = c.requires.named }) c.args.found.now c.args.steps.now c.requires.narrow
+    (record { rising = c.requires.rising; named = c.requires.named }) c.args.found.now.rows c.args.steps.now c.requires.narrow
 
 pub loop-row-preserved-in-None : goal.loop-row-preserved-in-None
 loop-row-preserved-in-None g t c =
@@ -50,7 +50,7 @@ pub returns-in_err-search-in-Some-2-clause-wide : goal.returns-in_err-search-in-
 returns-in_err-search-in-Some-2-clause-wide g t c =
     let terms = g.T.TermTable.terms c.args.table.now in
     let p = err_from_is_err_and c.from_residual-in_err-search-in-Some-2.result c.from_residual-in_err-search-in-Some-2.ensures.1 in
-    result_why (IsOfOrReached c.args.found.now terms c.args.view.now c.args.patterns.now c.args.from.now) _ _ p.0 p.1 p.2
+    result_why (IsOfOrReached c.args.found.now.rows terms c.args.view.now c.args.patterns.now c.args.from.now) _ _ p.0 p.1 p.2
     (found_over {terms = terms} {triples = c.args.view.now} {pattern = c.in-Some.pattern.now} {rest = c.in-Some.rest.now} {from = c.args.from.now} c.in-Some-next.ensures.row c.loop-row.invariant c.in_ok-extended.ensures c.in-Some-2.is c.args.patterns.now c.in-Some.ensures.cases.0
     c.in_err-search-in-Some-2.field-0.0 c.in_err-search-in-Some-2.ensures.wide)
 

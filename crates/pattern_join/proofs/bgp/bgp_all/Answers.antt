@@ -12,10 +12,10 @@ returns-in_err-search-clause-wide g c =
     let terms = g.T.TermTable.terms c.args.table.now in
     let p = err_from_is_err_and c.from_residual.result c.from_residual.ensures.1 in
     result_why (StandsFor terms (IsBgpSolution c.args.bgp.now (graph_in terms c.args.view.now))) _ _ p.0 p.1 p.2
-    (too_many_found terms c.term_of.ensures.once c.args.view.now c.requires.triples c.new-found.result c.new-start.result c.as_slice.result.now c.args.bgp.now
+    (too_many_found terms c.term_of.ensures.once c.args.view.now c.requires.triples c.new-found.result.rows c.new-start.result c.as_slice.result.now c.args.bgp.now
     c.new-found.ensures c.new-start.ensures c.as_slice.ensures c.in_err-search.field-0.0 c.in_err-search.ensures.wide)
 
 pub returns-clause-solutions : goal.returns-clause-solutions
 returns-clause-solutions g c =
-    all_found (g.T.TermTable.terms c.args.table.now) c.term_of.ensures.once c.args.view.now c.requires.triples c.new-found.result c.new-start.result c.as_slice.result.now c.args.bgp.now
-    c.new-found.ensures c.new-start.ensures c.as_slice.ensures c.search.new.found c.in_ok-search.ensures.ok
+    all_found (g.T.TermTable.terms c.args.table.now) c.term_of.ensures.once c.args.view.now c.requires.triples c.new-found.result.rows c.new-start.result c.as_slice.result.now c.args.bgp.now
+    c.new-found.ensures c.new-start.ensures c.as_slice.ensures c.search.new.found.rows c.in_ok-search.ensures.ok

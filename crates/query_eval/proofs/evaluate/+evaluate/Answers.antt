@@ -82,8 +82,8 @@ pub returns-in_ok-right-in-Join-clause-part : goal.returns-in_ok-right-in-Join-c
 returns-in_ok-right-in-Join-clause-part g t c =
     let terms = g.T.TermTable.terms c.args.table.now in
     let graph = graph_in terms c.args.view.now in
-    let l = c.in_ok-left-in-Join.left in
-    let r = c.in_ok-right-in-Join.right in
+    let l = c.in_ok-left-in-Join.left.rows in
+    let r = c.in_ok-right-in-Join.right.rows in
     let left = c.in_ok-left-in-Join.ensures.part in
     let right = c.in_ok-right-in-Join.ensures.part in
     let names = join_names terms c.requires.once l r left.rising right.rising (IsSolution c.get.result.now graph) (IsSolution c.get-in-Join.result.now graph)
@@ -161,8 +161,8 @@ pub returns-in_ok-right-in-Union-clause-part : goal.returns-in_ok-right-in-Union
 returns-in_ok-right-in-Union-clause-part g t c =
     let terms = g.T.TermTable.terms c.args.table.now in
     let graph = graph_in terms c.args.view.now in
-    let l = c.in_ok-left-in-Union.left in
-    let r = c.in_ok-right-in-Union.right in
+    let l = c.in_ok-left-in-Union.left.rows in
+    let r = c.in_ok-right-in-Union.right.rows in
     let left = c.in_ok-left-in-Union.ensures.part in
     let right = c.in_ok-right-in-Union.ensures.part in
     let names = union_names terms c.requires.once l r left.rising right.rising (IsSolution c.get-in-Union.result.now graph) (IsSolution c.get-in-Union-2.result.now graph)
@@ -240,8 +240,8 @@ pub returns-in_ok-right-in-LeftJoin-clause-part : goal.returns-in_ok-right-in-Le
 returns-in_ok-right-in-LeftJoin-clause-part g t c =
     let terms = g.T.TermTable.terms c.args.table.now in
     let graph = graph_in terms c.args.view.now in
-    let l = c.in_ok-left-in-LeftJoin.left in
-    let r = c.in_ok-right-in-LeftJoin.right in
+    let l = c.in_ok-left-in-LeftJoin.left.rows in
+    let r = c.in_ok-right-in-LeftJoin.right.rows in
     let left = c.in_ok-left-in-LeftJoin.ensures.part in
     let right = c.in_ok-right-in-LeftJoin.ensures.part in
     let condition = c.in-LeftJoin.condition in
@@ -252,7 +252,7 @@ returns-in_ok-right-in-LeftJoin-clause-part g t c =
     (left_join_named graph terms (IsLeftJoined id_var (Contains l) (Contains r) (RowPasses terms condition)) c.in-LeftJoin.is c.get-in-LeftJoin.ensures c.get-in-LeftJoin-2.ensures names)
     c.left_join.new.room c.left_join.result
     (subst (λ (k : Option Expr). MatchResult c.left_join.result
-    (AreTaken c.evaluate-in-LeftJoin-2.new.room c.left_join.new.room (IsLeftJoined id_var (Contains l) (Contains r) (RowPasses terms k)))
+    (λ rows. AreTaken c.evaluate-in-LeftJoin-2.new.room c.left_join.new.room (IsLeftJoined id_var (Contains l) (Contains r) (RowPasses terms k)) rows.rows)
     (WhyNotTaken c.evaluate-in-LeftJoin-2.new.room (IsLeftJoined id_var (Contains l) (Contains r) (RowPasses terms k)))) c.as_ref.ensures.value c.left_join.ensures)
 
 pub evaluate-requires-in-Filter : goal.evaluate-requires-in-Filter
@@ -295,7 +295,7 @@ pub returns-in_ok-inner-in-Filter-clause-part : goal.returns-in_ok-inner-in-Filt
 returns-in_ok-inner-in-Filter-clause-part g t c =
     let terms = g.T.TermTable.terms c.args.table.now in
     let graph = graph_in terms c.args.view.now in
-    let i = c.in_ok-inner-in-Filter.inner in
+    let i = c.in_ok-inner-in-Filter.inner.rows in
     let inner = c.in_ok-inner-in-Filter.ensures.part in
     let names = filter_names terms c.in-Filter.condition i (IsSolution c.get-in-Filter.result.now graph) inner.solutions in
     finished_inner terms c.requires.once graph (filter_side graph c.in-Filter.is c.get-in-Filter.ensures) inner (IsFiltered terms c.in-Filter.condition (Contains i))

@@ -1,6 +1,7 @@
 use Rattle.std.proofs.Common.{◌<◌, length, arith, sym, subst}
 use Rattle.std.proofs.lemmas.Result.{err_from_is_err_and}
 use Rattle.sparql_algebra.specs.declared.algebra.Algebra.{Bgp}
+use Rattle.sparql_algebra.specs.Solutions.{RowList}
 use Rattle.pattern_join.specs.Meaning.{graph_in}
 use Rattle.query_eval.specs.Parts.{AreEvaluated}
 use Rattle.query_eval.proofs.Rooms.{bgp_evaluated, bgp_over, bgp_fails}
@@ -15,7 +16,7 @@ returns-in_err-rows-clause-part g c =
 pub returns-then-len-room-clause-part : goal.returns-then-len-room-clause-part
 returns-then-len-room-clause-part g c =
     let terms = g.T.TermTable.terms c.args.table.now in
-    let rows = c.in_ok-rows.rows in
+    let rows = c.in_ok-rows.rows.rows in
     let over : c.args.room.now < length rows = let count = c.len.ensures.length in let test = c.if-len-room.true in omega (arith, count, test) in
     bgp_over terms c.requires.once (graph_in terms c.args.view.now) c.args.bgp.now c.args.room.now rows c.in_ok-rows.ensures.solutions c.len.ensures.distinct over
 
@@ -23,7 +24,7 @@ pub returns-clause-part : goal.returns-clause-part
 returns-clause-part g c =
     let terms = g.T.TermTable.terms c.args.table.now in
     let graph = graph_in terms c.args.view.now in
-    let rows = c.in_ok-rows.rows in
-    subst (AreEvaluated terms graph (Bgp c.args.bgp.now) c.args.room.now c.taken.new.room) (sym c.taken.ensures.same)
+    let rows = c.in_ok-rows.rows.rows in
+    subst (λ (l : RowList). AreEvaluated terms graph (Bgp c.args.bgp.now) c.args.room.now c.taken.new.room l.rows) (sym c.taken.ensures.same)
     (bgp_evaluated terms c.requires.once graph c.args.bgp.now c.args.room.now c.taken.new.room rows c.in_ok-rows.ensures.solutions c.taken.ensures.distinct c.taken.ensures.rising
     c.taken.ensures.room)

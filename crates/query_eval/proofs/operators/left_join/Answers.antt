@@ -7,5 +7,5 @@ use Rattle.query_eval.proofs.TakenRows.{taken_rows}
 use Rattle.query_eval.proofs.operators.left_join.Goals as goal
 
 pub returns : goal.returns
-returns g c = taken_rows (IsLeftJoined id_var (Contains c.args.left.now) (Contains c.args.right.now) (RowPasses (g.T.TermTable.terms c.args.table.now) (option_copied c.args.condition))) c.args.room.now c.taken.new.room c.in_ok-rows.rows c.taken.result
+returns g c = taken_rows (IsLeftJoined id_var (Contains c.args.left.now.rows) (Contains c.args.right.now.rows) (RowPasses (g.T.TermTable.terms c.args.table.now) (option_copied c.args.condition))) c.args.room.now c.taken.new.room c.in_ok-rows.rows c.taken.result
     c.in_ok-rows.ensures.rows c.taken.ensures.same c.taken.ensures.distinct c.taken.ensures.rising c.taken.ensures.room

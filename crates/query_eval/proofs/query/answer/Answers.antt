@@ -12,9 +12,9 @@ returns-in_err-rows-clause-wide g c =
 pub returns-clause-rows : goal.returns-clause-rows
 returns-clause-rows g c =
     let terms = g.T.TermTable.terms c.args.table.now in
-    answered terms c.args.query.now (graph_in terms c.args.view.now) c.in_ok-rows.rows c.in_ok-project_rows.field-0 c.in_ok-rows.ensures.part.solutions c.in_ok-project_rows.ensures
+    answered terms c.args.query.now (graph_in terms c.args.view.now) c.in_ok-rows.rows.rows c.in_ok-project_rows.field-0.rows c.in_ok-rows.ensures.part.solutions c.in_ok-project_rows.ensures
 
 pub returns-clause-narrow : goal.returns-clause-narrow
 returns-clause-narrow g c =
     let terms = g.T.TermTable.terms c.args.table.now in
-    narrow c.args.query.now.pattern (graph_in terms c.args.view.now) terms c.evaluate.new.room c.in_ok-rows.rows c.in_ok-rows.ensures.part
+    narrow c.args.query.now.pattern (graph_in terms c.args.view.now) terms c.evaluate.new.room c.in_ok-rows.rows.rows c.in_ok-rows.ensures.part

@@ -1,4 +1,4 @@
-use Rattle.std.proofs.Common.{◌≡◌, ◌∙◌, List, Contains, take, ◌+◌, subst, sym, refl, true≢false}
+use Rattle.std.proofs.Common.{◌≡◌, ◌∙◌, List, Contains, take, ◌+◌, ap, subst, sym, refl, true≢false}
 use Rattle.std.proofs.lemmas.List.{take_all}
 use Rattle.std.proofs.lemmas.Result.{err_from_is_err_and}
 use Rattle.sparql_algebra.specs.declared.mapping.Binding.{Binding}
@@ -16,12 +16,12 @@ returns-in_err-gather_within-clause-fault g c =
     let items = c.as_slice-row-items.result.now in
     let passes : truth c.args.condition.now (solution_in terms c.row-item.result) ≡ True = sym c.truth.ensures ∙ c.is_true.ensures.0 c.if-is_true.true in
     let p = err_from_is_err_and c.from_residual-in_err-gather_within.result c.from_residual-in_err-gather_within.ensures.1 in
-    result_why_none c.args.most (IsOfOr c.loop-row.kept c.in_ok-copy.field-0) (IsFiltered terms c.args.condition.now (Contains c.args.rows.now)) _
+    result_why_none c.args.most (IsOfOr c.loop-row.kept.rows c.in_ok-copy.field-0) (IsFiltered terms c.args.condition.now (Contains c.args.rows.now.rows)) _
     c.in_err-gather_within.field-0.0 p.0 p.1 p.2
-    (subst (λ (l : List (List Binding)). (r : List Binding) → IsOfOr c.loop-row.kept c.in_ok-copy.field-0 r → IsFiltered terms c.args.condition.now (Contains l) r)
+    (subst (λ (l : List (List Binding)). (r : List Binding) → IsOfOr c.loop-row.kept.rows c.in_ok-copy.field-0 r → IsFiltered terms c.args.condition.now (Contains l) r)
     c.as_slice-row-items.ensures.rows
     (with_of items c.loop-row.row-index c.row-item.result c.in_ok-copy.field-0 c.loop-row-test.true c.row-item.is c.in_ok-copy.ensures.equal
-    (λ r. truth c.args.condition.now (solution_in terms r) ≡ True) c.loop-row.kept passes c.loop-row.invariant.0))
+    (λ r. truth c.args.condition.now (solution_in terms r) ≡ True) c.loop-row.kept.rows passes c.loop-row.invariant.0))
     c.in_err-gather_within.ensures.fault
 
 pub loop-row-preserved : goal.loop-row-preserved
@@ -32,18 +32,18 @@ loop-row-preserved g c =
     elim c.if-is_true.branch [
       | then-is_true+in_ok-copy+in_ok-gather_within w ↦
           let passes : truth c.args.condition.now (solution_in terms c.row-item.result) ≡ True = sym c.truth.ensures ∙ c.is_true.ensures.0 w.if-is_true.true in
-          as_result next c.args.most c.if-is_true.kept w.gather_within.new.self w.kept-is
+          as_result next c.args.most c.if-is_true.kept.rows w.gather_within.new.self.rows (ap (λ l. l.rows) w.kept-is)
           (with_gained items c.loop-row.row-index c.row-item.result w.in_ok-copy.field-0 c.loop-row-test.true c.row-item.is w.in_ok-copy.ensures.equal
-          (λ r. truth c.args.condition.now (solution_in terms r) ≡ True) c.loop-row.kept w.gather_within.new.self passes c.loop-row.invariant.0 w.in_ok-gather_within.ensures.ok)
+          (λ r. truth c.args.condition.now (solution_in terms r) ≡ True) c.loop-row.kept.rows w.gather_within.new.self.rows passes c.loop-row.invariant.0 w.in_ok-gather_within.ensures.ok)
           w.in_ok-gather_within.ensures.few
-      | else-is_true w ↦ as_result next c.args.most c.if-is_true.kept c.loop-row.kept w.kept-is
+      | else-is_true w ↦ as_result next c.args.most c.if-is_true.kept.rows c.loop-row.kept.rows (ap (λ l. l.rows) w.kept-is)
           (without_passed items c.loop-row.row-index c.row-item.result c.row-item.result c.loop-row-test.true c.row-item.is refl
-          (λ r. truth c.args.condition.now (solution_in terms r) ≡ True) c.loop-row.kept
+          (λ r. truth c.args.condition.now (solution_in terms r) ≡ True) c.loop-row.kept.rows
           (λ t. true≢false (sym (c.is_true.ensures.1 (c.truth.ensures ∙ t)) ∙ w.if-is_true.false)) c.loop-row.invariant.0)
           c.loop-row.invariant.1
     ]
 
 pub returns-clause-rows : goal.returns-clause-rows
 returns-clause-rows g c =
-    subst (λ (l : List (List Binding)). AreExactly (IsFiltered (g.T.TermTable.terms c.args.table.now) c.args.condition.now (Contains l)) c.loop-row.kept)
+    subst (λ (l : List (List Binding)). AreExactly (IsFiltered (g.T.TermTable.terms c.args.table.now) c.args.condition.now (Contains l)) c.loop-row.kept.rows)
     (take_all c.loop-row.row-index c.as_slice-row-items.result.now c.loop-row-test.false ∙ c.as_slice-row-items.ensures.rows) c.loop-row.invariant.0

@@ -4,4 +4,4 @@ use Rattle.sparql_algebra.proofs.filter.filter_rows.Given as goal
 
 abbrev pub invariant-loop-row : goal.invariant-loop-row
 invariant-loop-row g l =
-    AreExactly (IsFiltered (g.T.TermTable.terms l.table) l.condition (Contains (take l.row-index l.row-items))) l.kept × (length l.kept ≤ l.most)
+    AreExactly (IsFiltered (g.T.TermTable.terms l.table) l.condition (Contains (take l.row-index l.row-items))) l.kept.rows × (length l.kept.rows ≤ l.most)

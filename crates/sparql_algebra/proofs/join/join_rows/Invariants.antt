@@ -5,4 +5,4 @@ use Rattle.sparql_algebra.specs.RowSets.{AreExactly}
 use Rattle.sparql_algebra.proofs.join.join_rows.Given as goal
 
 abbrev pub invariant-loop-one : goal.invariant-loop-one
-invariant-loop-one l = AreExactly (IsJoined id_var (Contains (take l.one-index l.one-items)) (Contains l.right)) l.rows × (length l.rows ≤ l.most)
+invariant-loop-one l = AreExactly (IsJoined id_var (Contains (take l.one-index l.one-items)) (Contains l.right.rows)) l.rows.rows × (length l.rows.rows ≤ l.most)

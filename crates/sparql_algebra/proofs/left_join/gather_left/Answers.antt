@@ -12,9 +12,9 @@ returns-in_err-gather_within-clause-fault g c =
     let Right = Contains c.args.others.now in
     let told = subst (λ (b : Bool). TellsPassing b c.args.left.now Right passing) c.if-not-found.true c.in_ok-found.ensures.found in
     let p = err_from_is_err_and c.from_residual-in_err-gather_within.result c.from_residual-in_err-gather_within.ensures.1 in
-    result_why_none c.args.most (IsOfOr c.gather_passing.new.rows c.in_ok-copy.field-0) (IsOfOrLeft c.args.rows.now c.args.left.now Right passing) _
+    result_why_none c.args.most (IsOfOr c.gather_passing.new.rows.rows c.in_ok-copy.field-0) (IsOfOrLeft c.args.rows.now.rows c.args.left.now Right passing) _
     c.in_err-gather_within.field-0.0 p.0 p.1 p.2
-    (left_of Right passing c.args.left.now c.args.rows.now c.gather_passing.new.rows c.in_ok-found.ensures.ok c.in_ok-copy.field-0 c.in_ok-copy.ensures.equal told)
+    (left_of Right passing c.args.left.now c.args.rows.now.rows c.gather_passing.new.rows.rows c.in_ok-found.ensures.ok c.in_ok-copy.field-0 c.in_ok-copy.ensures.equal told)
     c.in_err-gather_within.ensures.fault
 
 pub returns-in_ok-gather_within-clause-ok : goal.returns-in_ok-gather_within-clause-ok
@@ -22,7 +22,7 @@ returns-in_ok-gather_within-clause-ok g c =
     let passing = RowPasses (g.T.TermTable.terms c.args.table.now) (option_copied c.args.condition) in
     let Right = Contains c.args.others.now in
     let told = subst (λ (b : Bool). TellsPassing b c.args.left.now Right passing) c.if-not-found.true c.in_ok-found.ensures.found in
-    left_alone Right passing c.args.left.now c.args.rows.now c.gather_passing.new.rows c.in_ok-found.ensures.ok c.gather_within.new.self c.in_ok-copy.field-0
+    left_alone Right passing c.args.left.now c.args.rows.now.rows c.gather_passing.new.rows.rows c.in_ok-found.ensures.ok c.gather_within.new.self.rows c.in_ok-copy.field-0
     c.in_ok-copy.ensures.equal told c.in_ok-gather_within.ensures.ok
 
 pub returns-else-not-found-clause-ok : goal.returns-else-not-found-clause-ok
@@ -30,4 +30,4 @@ returns-else-not-found-clause-ok g c =
     let passing = RowPasses (g.T.TermTable.terms c.args.table.now) (option_copied c.args.condition) in
     let Right = Contains c.args.others.now in
     let told = subst (λ (b : Bool). TellsPassing b c.args.left.now Right passing) c.if-not-found.false c.in_ok-found.ensures.found in
-    left_merged Right passing c.args.left.now c.args.rows.now c.gather_passing.new.rows c.in_ok-found.ensures.ok told
+    left_merged Right passing c.args.left.now c.args.rows.now.rows c.gather_passing.new.rows.rows c.in_ok-found.ensures.ok told

@@ -11,7 +11,7 @@ returns-clause-full g c =
     let terms = g.T.TermTable.terms c.args.table.now in
     let variables = c.args.variables.now in
     let columns = c.args.columns.now in
-    let rows = c.args.rows.now in
+    let rows = c.args.rows.now.rows in
     let lines = c.in_ok-ordered_lines.field-0 in
     subst (λ names. AreFull names lines) (sym c.in_ok-copied.ensures)
     (all_moved (λ row. length row ≡ length columns) (map (row_of terms variables) rows) lines c.in_ok-ordered_lines.ensures.same

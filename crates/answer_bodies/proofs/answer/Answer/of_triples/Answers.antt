@@ -13,4 +13,4 @@ sorted-requires g c =
     let slice = c.as_slice.ensures in
     subst (IsDistinct (eq_by_cmp triple_cmp)) (sym c.in_ok-given.ensures)
     (subst (λ rows. IsDistinct (eq_by_cmp triple_cmp) (filter_map (triple_of_row terms) rows)) (sym slice.rows)
-    (distinct_triples terms c.args.rows.now c.names_once.ensures c.requires.rows slice.distinct))
+    (distinct_triples terms c.args.rows.now.rows c.names_once.ensures c.requires.rows slice.distinct))

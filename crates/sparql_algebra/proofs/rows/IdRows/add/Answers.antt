@@ -3,7 +3,7 @@ use Rattle.std.proofs.Common.{◌≡◌, ◌∙◌, ap, Bool, true, false, List,
 use Rattle.std.proofs.lemmas.Map.Views.{Contains-from_any}
 use Rattle.std.specs.List.{list_any}
 use Rattle.sparql_algebra.specs.declared.mapping.Binding.{Binding}
-use Rattle.sparql_algebra.specs.Solutions.{solution_eq}
+use Rattle.sparql_algebra.specs.Solutions.{RowList, solution_eq}
 use Rattle.sparql_algebra.specs.SolutionLaws.{solution_exact}
 use Rattle.sparql_algebra.proofs.rows.IdRows.add.Goals as goal
 
@@ -16,5 +16,6 @@ pub returns-clause-ok : goal.returns-clause-ok
 returns-clause-ok c =
     let rows = c.self.inside.rows.keys in
     let row = c.args.row in
-    let absent : Contains rows row → ⊥ = subst (λ (l : List (List Binding)). Contains l row → ⊥) (sym c.self.view_is) c.requires in
-    c.in_ok-insert.ensures.keys ∙ last_at rows row (list_any (solution_eq row) rows) refl absent ∙ ap (λ l. l ++ row ∷ []) c.self.view_is
+    let shown = ap (λ (l : RowList). l.rows) c.self.view_is in
+    let absent : Contains rows row → ⊥ = subst (λ (l : List (List Binding)). Contains l row → ⊥) (sym shown) c.requires in
+    c.in_ok-insert.ensures.keys ∙ last_at rows row (list_any (solution_eq row) rows) refl absent ∙ ap (λ l. l ++ row ∷ []) shown
