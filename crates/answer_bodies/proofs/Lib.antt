@@ -9,3 +9,4 @@ pub mod MappedItems
 pub mod DistinctItems
 pub mod RowTriples
 pub mod RowCells
+pub mod ProjectedCells

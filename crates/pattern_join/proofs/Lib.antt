@@ -10,3 +10,4 @@ pub mod Reached
 pub mod RowsOnce
 pub mod Scanned
 pub mod Searching
+pub mod SumsDecideScans

@@ -7,7 +7,7 @@ mod Forms
 mod Within
 pub mod Gathered
 mod Merges
-mod Grouping
+pub mod Grouping
 mod Removed
 pub mod Limits
 pub mod ListMembers
@@ -17,3 +17,4 @@ pub mod ListedSolutions
 pub mod ListedWidths
 pub mod ListedAnswers
 pub mod StandForLaws
+pub mod MembersDecide
