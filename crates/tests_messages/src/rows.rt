@@ -36,7 +36,7 @@ fn table(alloc: Global) -> Result<Interner, Fail>
 }
 
 fn triple_rows(alloc: Global) -> Result<IdRows, NoMemory>
-    ensures { IfOk result (λ rows. rows ≡ three_triples) }
+    ensures { IfOk result (λ rows. rows.rows ≡ three_triples) }
 {
     let mut rows = IdRows::new(alloc);
     rows.add_three(alloc, TermId(0), TermId(2), TermId(3))?;
@@ -73,7 +73,7 @@ fn pair(alloc: Global, first: u32, second: u32) -> Result<Mapping, NoMemory>
 }
 
 fn pair_rows(alloc: Global) -> Result<IdRows, NoMemory>
-    ensures { IfOk result (λ rows. rows ≡ three_pairs) }
+    ensures { IfOk result (λ rows. rows.rows ≡ three_pairs) }
 {
     let mut rows = IdRows::new(alloc);
     rows.add(pair(alloc, 3, 0)?)?;

@@ -1,56 +1,10 @@
-//! Texts of queries: how far their tokens lead, and what faults in them.
+//! Texts of queries: what faults in them, and what they say.
 use m3_terms::NoMemory;
-use sparql_read::{Judged, Led, Limit, judge, lead};
+use sparql_algebra::{Algebra, Query};
+use sparql_read::read_query;
+use sparql_text::{Judged, Limit, judge};
 use std::alloc::Global;
 use std::test::Fail;
-
-/// A text, and how far its tokens lead.
-type Case = (&'static [u8], Led);
-
-const QUERIES: [&[u8]; 8] = [
-    b"SELECT DISTINCT ?s ?n WHERE { ?s <state> \"on\" OPTIONAL { ?s <name> ?n } }",
-    b"SELECT DISTINCT ?s { { ?s <a> \"1\" } UNION { ?s <b> \"1\" } }",
-    b"SELECT DISTINCT ?x ?y { ?x <p> ?z OPTIONAL { ?x <q> ?y } FILTER (!bound(?y) || ?y = \"\") }",
-    b"SELECT DISTINCT ?x ?w { ?x <p> ?v OPTIONAL { ?x <q> ?w FILTER (?w < ?v) } }",
-    b"SELECT DISTINCT ?s { ?s <p> ?o . FILTER CONTAINS(?o, \"n\") }",
-    b"SELECTDISTINCT*{}",
-    b"SELECT ?s { ?s ?p ?o }",
-    b"PREFIX : <room/> select distinct $s where { $s a :lamp ; :state 'on' , \"off\" . } # all",
-];
-
-const OTHERS: [Case; 7] = [
-    (b"SELECTED", Led::NoToken { place: 6 }),
-    (
-        b"SELECT DISTINCT ?s { ?s ?p _:b }",
-        Led::NoToken { place: 27 },
-    ),
-    (b"SELECT DISTINCT * ", Led::NotWhole),
-    (b"", Led::NotWhole),
-    (b"SELECT DISTINCT * { } }", Led::Untaken { place: 22 }),
-    (b"SELECT DISTINCT * { ?s A ?o }", Led::NoToken { place: 23 }),
-    (
-        b"SELECT DISTINCT * { \"s\" ?p ?o }",
-        Led::Untaken { place: 20 },
-    ),
-];
-
-#[test]
-fn queries_are_led_to_their_end(rt: HostRuntime) -> Result<(), Fail> {
-    for text in QUERIES {
-        let led = lead(rt.alloc(), text)?;
-        assert_eq!(rt; led, Led::Whole);
-    }
-    Ok(())
-}
-
-#[test]
-fn other_texts_are_led_to_their_fault(rt: HostRuntime) -> Result<(), Fail> {
-    for (text, expected) in OTHERS {
-        let led = lead(rt.alloc(), text)?;
-        assert_eq!(rt; led, expected);
-    }
-    Ok(())
-}
 
 /// A text, and what is judged of it.
 type Verdict = (&'static [u8], Judged);
@@ -91,8 +45,8 @@ const VERDICTS: [Verdict; 9] = [
 #[test]
 fn texts_are_judged(rt: HostRuntime) -> Result<(), Fail> {
     for (text, expected) in VERDICTS {
-        let judged = judge(rt.alloc(), text)?;
-        assert_eq!(rt; judged, expected);
+        let judgement = judge(rt.alloc(), text)?;
+        assert_eq!(rt; judgement.judged, expected);
     }
     Ok(())
 }
@@ -112,11 +66,85 @@ fn filters(alloc: Global, count: usize) -> Result<Vec<u8>, NoMemory> {
 fn conditions_have_a_limit(rt: HostRuntime) -> Result<(), Fail> {
     let alloc = rt.alloc();
     let most = filters(alloc, 256)?;
-    let judged = judge(alloc, most.as_slice())?;
-    assert_eq!(rt; judged, Judged::Fine { distinct: true });
+    let judgement = judge(alloc, most.as_slice())?;
+    assert_eq!(rt; judgement.judged, Judged::Fine { distinct: true });
     let more = filters(alloc, 257)?;
-    let judged = judge(alloc, more.as_slice())?;
+    let judgement = judge(alloc, more.as_slice())?;
     let which = Limit::Conditions;
-    assert_eq!(rt; judged, Judged::OverLimit { which, place: 2579 });
+    assert_eq!(rt; judgement.judged, Judged::OverLimit { which, place: 2579 });
+    Ok(())
+}
+
+/// The operator at the top of a pattern.
+fn top(query: &Query) -> u8 {
+    match query.pattern {
+        Algebra::Bgp(_) => b'B',
+        Algebra::Join(_, _) => b'J',
+        Algebra::Union(_, _) => b'U',
+        Algebra::LeftJoin(_, _, _) => b'L',
+        Algebra::Filter(_, _) => b'F',
+    }
+}
+
+/// A text, how many variables and columns its query has, and the operator at its top.
+type Said = (&'static [u8], usize, usize, u8);
+
+const QUERIES: [Said; 8] = [
+    (
+        b"SELECT DISTINCT ?s ?n WHERE { ?s <state> \"on\" OPTIONAL { ?s <name> ?n } }",
+        2,
+        2,
+        b'L',
+    ),
+    (
+        b"SELECT DISTINCT ?s { { ?s <a> \"1\" } UNION { ?s <b> \"1\" } }",
+        1,
+        1,
+        b'U',
+    ),
+    (
+        b"SELECT DISTINCT ?x ?y { ?x <p> ?z OPTIONAL { ?x <q> ?y } FILTER (!bound(?y) || ?y = \"\") }",
+        3,
+        2,
+        b'F',
+    ),
+    (
+        b"SELECT DISTINCT ?x ?w { ?x <p> ?v OPTIONAL { ?x <q> ?w FILTER (?w < ?v) } }",
+        3,
+        2,
+        b'L',
+    ),
+    (
+        b"SELECT DISTINCT ?s { ?s <p> ?o . FILTER CONTAINS(?o, \"n\") }",
+        2,
+        1,
+        b'F',
+    ),
+    (b"SELECTDISTINCT*{}", 0, 0, b'B'),
+    (b"SELECT DISTINCT ?a ?a { ?a ?b ?c }", 3, 1, b'B'),
+    (
+        b"PREFIX : <room/> select distinct * where { { ?s a :lamp } { ?s :in 'hall' } } # all",
+        1,
+        1,
+        b'J',
+    ),
+];
+
+// Whether a text says a query of so many variables and columns, with this operator at its top.
+fn says(alloc: Global, said: Said) -> bool {
+    let (text, names, columns, operator) = said;
+    match read_query(alloc, text) {
+        Ok(query) => {
+            query.names.len() == names && query.columns.len() == columns && top(&query) == operator
+        }
+        Err(_) => false,
+    }
+}
+
+#[test]
+fn texts_say_queries(rt: HostRuntime) -> Result<(), Fail> {
+    for said in QUERIES {
+        assert!(rt; says(rt.alloc(), said));
+    }
     Ok(())
 }

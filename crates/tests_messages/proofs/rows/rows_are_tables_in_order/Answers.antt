@@ -15,5 +15,5 @@ bound = ((first, (second, tt)), ((first, (second, tt)), ((first, tt), tt)))
 
 pub of_rows-requires-clause-bound : goal.of_rows-requires-clause-bound
 of_rows-requires-clause-bound g c =
-    subst (λ among. AreBoundAmong among c.in_ok-pair_rows.field-0) (sym c.in_ok-variables.ensures)
+    subst (λ among. AreBoundAmong among c.in_ok-pair_rows.field-0.rows) (sym c.in_ok-variables.ensures)
     (subst (AreBoundAmong variables) (sym c.in_ok-pair_rows.ensures) bound)

@@ -1,0 +1,4 @@
+pub mod Scoped
+pub mod Drafting
+pub mod Reading
+pub mod Drafted
