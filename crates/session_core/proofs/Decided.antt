@@ -1,4 +1,4 @@
--- The verdict on a request, in two steps: the ranks before the limits, and then these.
+-- The verdict on a request, in two steps: the ranks before query texts and limits, and then these.
 use Rattle.std.proofs.Common.{◌≡◌, ℕ, Bool, true, false, not, List, [], ◌∷◌, ◌++◌, Option, Some, None, refl, sym, ap, ◌∙◌}
 use Rattle.std.proofs.lemmas.Option.{same_Some}
 use Rattle.std.specs.Option.{option_or, unwrap_or}
@@ -9,7 +9,7 @@ use Rattle.ssap_shape.specs.declared.request.Ask.{Ask}
 use Rattle.ssap_shape.specs.declared.request.Request.{Request}
 use Rattle.ssap_shape.specs.declared.request.Arrived.TheVariants as arrived
 use Rattle.session_core.specs.Space.{Space}
-use Rattle.session_core.specs.Requests.{is_for, is_stranger, is_built, is_unfit, is_success, refuse, Rank, elsewhere, denied, unbuilt, unfit, over, early_ranks, first_of, verdict, confirm}
+use Rattle.session_core.specs.Requests.{is_for, is_stranger, is_built, is_unfit, is_success, refuse, Rank, elsewhere, denied, unbuilt, unfit, unread, over, early_ranks, first_of, verdict, confirm}
 use Rattle.session_core.specs.Steps.{queue, delivered}
 use Rattle.session_core.specs.Ranks.{decided, asking, passed}
 
@@ -29,11 +29,15 @@ first_of-append (rank ∷ some) others space request =
     ap (option_or (rank space request)) (first_of-append some others space request)
     ∙ sym (or_assoc (rank space request) (first_of some space request) (first_of others space request))
 
--- the verdict is that of the ranks before the limits, or else of these
-verdict_is : (space : Space) (request : Request) → verdict space request ≡ unwrap_or (option_or (first_of early_ranks space request) (over space request)) Success
+-- what a query text or a limit refuses
+abbrev late : Space → Request → Option Status
+late space request = option_or (unread space request) (over space request)
+
+-- the verdict is that of the ranks before query texts and limits, or else of these
+verdict_is : (space : Space) (request : Request) → verdict space request ≡ unwrap_or (option_or (first_of early_ranks space request) (late space request)) Success
 verdict_is space request =
-    ap (λ o. unwrap_or o Success) (first_of-append early_ranks (over ∷ []) space request
-    ∙ ap (option_or (first_of early_ranks space request)) (or_none (over space request)))
+    ap (λ o. unwrap_or o Success) (first_of-append early_ranks (unread ∷ over ∷ []) space request
+    ∙ ap (λ o. option_or (first_of early_ranks space request) (option_or (unread space request) o)) (or_none (over space request)))
 
 -- a status that ranks give refuses
 abbrev Refuses : Option Status → Type 0
@@ -62,19 +66,19 @@ pub decided_refused : (space : Space) (link : ℕ) (request : Request) (status :
     → decided space link request status ≡ queue space link (Some (confirm request.heads status))
 decided_refused space link request status e = rw e refl
 
--- a request that a rank before the limits refuses is answered so, and nothing else happens
+-- a request that a rank before query texts and limits refuses is answered so, and nothing else happens
 pub delivered_refused : (space : Space) (link : ℕ) (request : Request) (status : Status) → first_of early_ranks space request ≡ Some status
     → delivered space link (arrived.Request request) ≡ queue space link (Some (confirm request.heads status))
 delivered_refused space link request status h =
-    let same : verdict space request ≡ status = verdict_is space request ∙ ap (λ o. unwrap_or (option_or o (over space request)) Success) h in
+    let same : verdict space request ≡ status = verdict_is space request ∙ ap (λ o. unwrap_or (option_or o (late space request)) Success) h in
     ap (decided space link request) same ∙ decided_refused space link request status (early_refuses space request status h)
 
--- a request that no rank before the limits refuses is granted, or refused by a limit
+-- a request that no rank before these refuses is granted, or refused by its query text or a limit
 pub delivered_passed : (space : Space) (link : ℕ) (heads : Heads) (ask : Ask) → first_of early_ranks space (asking heads ask) ≡ None
     → delivered space link (arrived.Request (asking heads ask)) ≡ passed space link heads ask
 delivered_passed space link heads ask h =
     ap (decided space link (asking heads ask))
-    (verdict_is space (asking heads ask) ∙ ap (λ o. unwrap_or (option_or o (over space (asking heads ask))) Success) h)
+    (verdict_is space (asking heads ask) ∙ ap (λ o. unwrap_or (option_or o (late space (asking heads ask))) Success) h)
 
 -- of ranks of which none refuses, neither the first nor another does
 none_first : (a b : Option Status) → option_or a b ≡ None → a ≡ None
@@ -89,7 +93,7 @@ passes_refuse : (passes : Bool) (status : Status) → refuse (not passes) status
 passes_refuse true status h = refl
 passes_refuse false status h = cc
 
--- what passes the ranks before the limits is built
+-- what passes the ranks before query texts and limits is built
 pub passes_built : (space : Space) (request : Request) → first_of early_ranks space request ≡ None → is_built request.ask ≡ true
 passes_built space request h =
     let later = none_later (denied space request) _ (none_later (elsewhere space request) _ h) in

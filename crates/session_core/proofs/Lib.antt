@@ -15,3 +15,4 @@ pub mod Growing
 pub mod Sending
 pub mod AnswersAreMeant
 pub mod TextsAreWritten
+pub mod TablesAreAnswers

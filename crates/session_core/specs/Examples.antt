@@ -1,5 +1,5 @@
 -- Worked examples: a node k asks the space X on its first link.
-use Rattle.std.specs.Prelude.{◌≡◌, Bool, true, false, List, [], ◌∷◌, codes, Some, refl, replicate}
+use Rattle.std.specs.Prelude.{◌≡◌, Bool, true, false, List, [], ◌∷◌, codes, Some, Err, refl, replicate}
 use Rattle.m3_terms.specs.declared.term.Term.{Term}
 use Rattle.m3_terms.specs.declared.term.Term.TheVariants.{Uri, Literal}
 use Rattle.m3_terms.specs.declared.triple.Triple.{Triple}
@@ -17,8 +17,10 @@ use Rattle.ssap_shape.specs.declared.request.Ask.{Ask}
 use Rattle.ssap_shape.specs.declared.request.Ask.TheVariants as ask
 use Rattle.ssap_shape.specs.declared.request.Request.{Request}
 use Rattle.ssap_shape.specs.declared.request.Arrived.TheVariants as arrived
+use Rattle.sparql_text.specs.declared.fault.Limit.TheVariants as limit
+use Rattle.sparql_text.specs.declared.fault.ReadFault.TheVariants as fault
 use Rattle.session_core.specs.Space.{Space, empty_space}
-use Rattle.session_core.specs.Requests.{verdict, confirm, confirm_due, done}
+use Rattle.session_core.specs.Requests.{reading_refusal, verdict, confirm, confirm_due, done}
 use Rattle.session_core.specs.Steps.{step}
 use Rattle.session_core.specs.declared.call.Call.TheVariants.{NewLink, Deliver, End, Lost, Take}
 use Rattle.session_core.specs.declared.call.Reply.TheVariants.{TooManyLinks, Done, NoLink, Closed, Empty, Over}
@@ -104,9 +106,15 @@ example_wildcard = refl
 example_elsewhere : verdict (record space { name = codes "Y" }) (insert Any true) ≡ status.Request
 example_elsewhere = refl
 
--- a query isn't built
-example_query : verdict (done space join) (asks transaction.TheVariants.Query (ask.Unsubscribe (codes "1"))) ≡ status.NotImplemented
-example_query = refl
+-- to end a subscription isn't built
+example_unsubscribe : verdict (done space join) (asks transaction.TheVariants.Query (ask.Unsubscribe (codes "1"))) ≡ status.NotImplemented
+example_unsubscribe = refl
+
+-- a text that is a query but for DISTINCT asks for what isn't built, one that faults in a token is a bad request, and one that
+-- passes a limit is out of resources
+example_texts : (reading_refusal (Err fault.NotDistinct) ≡ Some status.NotImplemented) × (reading_refusal (Err (fault.NotInProfile 7)) ≡ Some status.Request)
+    × (reading_refusal (Err (fault.OverLimit limit.Variables 7)) ≡ Some status.OutOfResources)
+example_texts = (refl, refl, refl)
 
 -- a message that is no request ends its link, which is told of once
 example_ended : step space (Deliver 1 arrived.NotRequest) ≡ record { space = record space { links = record { state = Gone; pending = [] } ∷ [] }; reply = Done (1 ∷ []) }

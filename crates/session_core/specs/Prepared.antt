@@ -1,5 +1,5 @@
 -- What is prepared of an update before it is made.
-use Rattle.std.specs.Prelude.{◌≡◌, ◌≤◌, ◌<◌, ◌⊎◌, ℕ, false, List, ◌++◌, length, filter_map, Contains, Some, None}
+use Rattle.std.specs.Prelude.{◌≡◌, ◌≢◌, ◌≤◌, ◌<◌, ◌⊎◌, ℕ, false, List, ◌++◌, length, filter_map, Contains, Some, None, slice_get}
 use Rattle.std.specs.List.{IsDistinct}
 use Rattle.std.specs.List.Sorted.{IsPermutation, IsStrictlySortedBy}
 use Rattle.m3_terms.specs.Order.{term_eq, triple_cmp}
@@ -15,12 +15,21 @@ use Rattle.session_core.specs.Graph.{graph_after, terms_of, with_named}
 use Rattle.triple_index.specs.declared.triple.IdTriple.{IdTriple}
 use Rattle.ssap_items.specs.declared.heads.Heads.{Heads}
 use Rattle.answer_bodies.specs.declared.answer.Answer.{Answer}
-use Rattle.answer_bodies.specs.declared.answer.Answer.TheVariants.{Triples}
+use Rattle.answer_bodies.specs.declared.answer.Answer.TheVariants.{Triples, Table}
+use Rattle.answer_bodies.specs.Writing.{IsFull}
+use Rattle.sparql_algebra.specs.Listed.{rows_of, width_of}
+use Rattle.sparql_algebra.specs.declared.algebra.Query.{Query}
+use Rattle.sparql_algebra.specs.declared.mapping.Binding.{Binding}
+use Rattle.pattern_join.specs.Meaning.{graph_in}
+use Rattle.query_eval.specs.Answered.{AreAnswer}
+use Rattle.sparql_text.specs.declared.fault.ReadFault.{ReadFault}
+use Rattle.sparql_text.specs.declared.fault.ReadFault.TheVariants.{NoMemory}
+use Rattle.ssap_shape.specs.declared.status.Status.{Status}
 use Rattle.ssap_shape.specs.declared.status.Status.TheVariants.{Success}
 use Rattle.ssap_shape.specs.declared.reply.Confirm.{Confirm}
-use Rattle.session_core.specs.Answers.{fitting, text_bytes}
+use Rattle.session_core.specs.Answers.{fitting, text_bytes, column_names}
 use Rattle.session_core.specs.Numbers.{Numbers, triples_in, graph_of, ids_of, pattern_in, bytes_in, made, CanBeMade}
-use Rattle.session_core.specs.Requests.{is_overfull, confirm_bytes}
+use Rattle.session_core.specs.Requests.{is_overfull, status_of_fault, confirm_bytes}
 
 -- these are the new terms of patterns that are inserted, within the limit of named terms
 pub record IsDraft (old : Numbers) (insert : List Pattern) (terms : List Term) : Type 0 where
@@ -67,6 +76,22 @@ pub record AreMatching (numbers : Numbers) (templates : List Pattern) (triples :
   pub few : length (fitting (graph_of numbers) templates) ≤ 65536
   pub answers : (reply : Answer) → IsMeant numbers.terms triples reply → reply ≡ Triples (fitting (graph_of numbers) templates)
   pub bytes : bytes_in numbers.terms triples ≡ text_bytes (fitting (graph_of numbers) templates)
+
+-- the rows of numbers answer a query over what the numbers mean, whose width is within its limit
+pub record AreRows (numbers : Numbers) (query : Query) (rows : List (List Binding)) : Type 0 where
+  pub answer : AreAnswer (slice_get numbers.terms) query (graph_in (slice_get numbers.terms) numbers.triples) rows
+  pub narrow : width_of query.pattern (graph_of numbers) ≤ 65536
+
+-- the answer is the table of a query, whose width is within its limit; each row has a cell for each column
+pub record IsTable (graph : List Triple) (query : Query) (answer : Answer) : Type 0 where
+  pub is : answer ≡ Table (column_names query) (rows_of query graph)
+  pub narrow : width_of query.pattern graph ≤ 65536
+  pub full : IsFull answer
+
+-- the status that refuses a text for a fault, and the fault is not that of memory
+pub record IsRefusal (fault : ReadFault) (status : Status) : Type 0 where
+  pub is : status ≡ status_of_fault fault
+  pub said : fault ≢ NoMemory
 
 -- the confirm of success that brings an answer
 abbrev pub answering : Heads → Answer → Confirm

@@ -1,14 +1,16 @@
--- What a request comes to in two steps: what refuses it before its limits are looked at, and then these.
-use Rattle.std.specs.Prelude.{◌≡◌, ℕ, ◌||◌, Bool, not, nat_lt, if◌then◌else◌, List, [], ◌∷◌, length, refl}
-use Rattle.std.specs.Option.{unwrap_or}
+-- What a request comes to in two steps: what refuses it before its query text and its limits are looked at, and then these.
+use Rattle.std.specs.Prelude.{◌≡◌, ℕ, ◌||◌, Bool, not, nat_lt, if◌then◌else◌, List, [], ◌∷◌, length, Some, refl}
+use Rattle.std.specs.Option.{option_or, unwrap_or}
 use Rattle.link_table.specs.Links.{Link, is_open, state_of, pending_of}
 use Rattle.ssap_items.specs.declared.heads.Heads.{Heads}
+use Rattle.answer_bodies.specs.declared.answer.Answer.{Answer}
 use Rattle.ssap_shape.specs.declared.status.Status.{Status}
-use Rattle.ssap_shape.specs.declared.status.Status.TheVariants.{Success}
+use Rattle.ssap_shape.specs.declared.status.Status.TheVariants.{Success, OutOfResources}
 use Rattle.ssap_shape.specs.declared.request.Ask.{Ask}
 use Rattle.ssap_shape.specs.declared.request.Request.{Request}
 use Rattle.session_core.specs.Space.{Space}
-use Rattle.session_core.specs.Requests.{over, done_with, due_with}
+use Rattle.session_core.specs.Requests.{unread, over, done_with, due_with, confirm, confirm_bytes}
+use Rattle.session_core.specs.Prepared.{answering}
 use Rattle.session_core.specs.Steps.{queue}
 use Rattle.session_core.specs.declared.space.TheConstants.{NODE_LIMIT, TRIPLE_LIMIT, TERMS_LIMIT, CONFIRM_LIMIT}
 
@@ -20,9 +22,20 @@ decided space link request status = queue (done_with space request status) link 
 abbrev pub asking : Heads → Ask → Request
 asking heads ask = record { heads = heads; ask = ask }
 
--- the space after a request that only its limits may refuse
+-- the space after a request that only its query text or its limits may refuse
 abbrev pub passed : Space → ℕ → Heads → Ask → Space
-passed space link heads ask = decided space link (asking heads ask) (unwrap_or (over space (asking heads ask)) Success)
+passed space link heads ask = decided space link (asking heads ask) (unwrap_or (option_or (unread space (asking heads ask)) (over space (asking heads ask))) Success)
+
+-- the space after a query with this answer, unless the confirm is too long
+abbrev pub answered : Space → ℕ → Heads → Answer → Space
+answered space link heads answer =
+    if nat_lt 4194304 (length (confirm_bytes (answering heads answer))) then queue space link (Some (confirm heads OutOfResources))
+    else queue space link (Some (confirm_bytes (answering heads answer)))
+
+-- the space after a query of this width and with this answer, unless one of them is too great
+abbrev pub queried : Space → ℕ → Heads → ℕ → Answer → Space
+queried space link heads width answer =
+    if nat_lt 65536 width then queue space link (Some (confirm heads OutOfResources)) else answered space link heads answer
 
 -- a link that was open and on which so many messages waited was sent one more, or is open no more
 abbrev pub is_rung_since : List Link → ℕ → ℕ → Bool

@@ -1,5 +1,5 @@
 -- How many rows of the graph a call may read.
-use Rattle.std.specs.Prelude.{ℕ, ◌+◌, List, [], ◌∷◌}
+use Rattle.std.specs.Prelude.{ℕ, ◌+◌, List, [], ◌∷◌, Result, Ok, Err}
 use Rattle.m3_terms.specs.declared.triple.Triple.{Triple}
 use Rattle.ssap_shape.specs.declared.request.Wish.{Wish}
 use Rattle.ssap_shape.specs.declared.request.Wish.TheVariants.{Templates, Sparql}
@@ -7,6 +7,10 @@ use Rattle.ssap_shape.specs.declared.request.Ask.{Ask}
 use Rattle.ssap_shape.specs.declared.request.Ask.TheVariants.{Join, Leave, Update, Query, Subscribe, Unsubscribe}
 use Rattle.ssap_shape.specs.declared.request.Arrived.{Arrived}
 use Rattle.ssap_shape.specs.declared.request.Arrived.TheVariants.{Request, Wrong, NotRequest}
+use Rattle.sparql_algebra.specs.declared.algebra.Query.{Query as Said}
+use Rattle.sparql_text.specs.declared.fault.ReadFault.{ReadFault}
+use Rattle.sparql_read.specs.Reading.{reading_of}
+use Rattle.query_eval.specs.Reads.{reads}
 use Rattle.session_core.specs.Space.{Space}
 use Rattle.session_core.specs.Graph.{fits}
 use Rattle.triple_index.specs.Graphs.{count_fitting}
@@ -14,10 +18,15 @@ use Rattle.session_core.specs.Steps.{step}
 use Rattle.session_core.specs.declared.call.Call.{Call}
 use Rattle.session_core.specs.declared.call.Call.TheVariants.{NewLink, Deliver, End, Lost, Take}
 
--- for a query: the triples that fit a template, counted for each template
+-- for what a text comes to: the triples that are read for its query's pattern
+abbrev pub reading_cost : List Triple → Result Said ReadFault → ℕ
+reading_cost graph (Ok query) = reads query.pattern graph
+reading_cost graph (Err fault) = 0
+
+-- for a query: the triples that fit a template, counted for each template, or those that are read for its text
 abbrev pub query_cost : List Triple → Wish → ℕ
 query_cost graph (Templates templates) = count_fitting fits graph templates
-query_cost graph (Sparql text) = 0
+query_cost graph (Sparql text) = reading_cost graph (reading_of text)
 
 -- for what is asked for: an update may read the triples that fit a pattern that it removes, counted for each pattern
 abbrev pub ask_cost : List Triple → Ask → ℕ

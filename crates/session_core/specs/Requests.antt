@@ -1,5 +1,5 @@
 -- What a request comes to: the first rank that refuses it decides, and else it is done.
-use Rattle.std.specs.Prelude.{ℕ, Bool, true, false, ◌&&◌, ◌||◌, not, nat_le, nat_lt, if◌then◌else◌, List, [], ◌∷◌, ◌++◌, length, is_none, Option, Some, None}
+use Rattle.std.specs.Prelude.{ℕ, Bool, true, false, ◌&&◌, ◌||◌, not, nat_le, nat_lt, if◌then◌else◌, List, [], ◌∷◌, ◌++◌, length, is_none, Option, Some, None, Result, Ok, Err}
 use Rattle.std.specs.List.{list_any}
 use Rattle.std.specs.Option.{option_or, unwrap_or}
 use Rattle.std.specs.Str.{bytes_eq}
@@ -20,6 +20,10 @@ use Rattle.ssap_shape.specs.declared.request.Wish.TheVariants.{Templates, Sparql
 use Rattle.ssap_shape.specs.declared.request.Ask.{Ask}
 use Rattle.ssap_shape.specs.declared.request.Ask.TheVariants.{Join, Leave, Update, Query, Subscribe, Unsubscribe}
 use Rattle.ssap_shape.specs.declared.request.Request.{Request}
+use Rattle.sparql_algebra.specs.declared.algebra.Query.{Query as Said}
+use Rattle.sparql_text.specs.declared.fault.ReadFault.{ReadFault}
+use Rattle.sparql_text.specs.declared.fault.ReadFault.TheVariants as fault
+use Rattle.sparql_read.specs.Reading.{reading_of}
 use Rattle.session_core.specs.Space.{Space, is_member, with_node, without_node, updated}
 use Rattle.session_core.specs.Graph.{graph_after, terms_of, with_named}
 use Rattle.session_core.specs.Answers.{answer_to, width_of}
@@ -37,17 +41,12 @@ is_stranger space heads (Query wish) = not (is_member space heads.node_id)
 is_stranger space heads (Subscribe wish) = not (is_member space heads.node_id)
 is_stranger space heads (Unsubscribe text) = not (is_member space heads.node_id)
 
--- a wish is built: templates, and no query text yet
-abbrev pub is_answered : Wish → Bool
-is_answered (Templates templates) = true
-is_answered (Sparql text) = false
-
--- what is asked for is built: to join, to leave, to update, and to query by templates
+-- what is asked for is built: to join, to leave, to update and to query
 abbrev pub is_built : Ask → Bool
 is_built Join = true
 is_built Leave = true
 is_built (Update remove insert confirm) = true
-is_built (Query wish) = is_answered wish
+is_built (Query wish) = true
 is_built (Subscribe wish) = false
 is_built (Unsubscribe text) = false
 
@@ -63,6 +62,32 @@ is_unfit (Update remove insert confirm) = list_any is_no_triple insert
 is_unfit (Query wish) = false
 is_unfit (Subscribe wish) = false
 is_unfit (Unsubscribe text) = false
+
+-- the status that tells why a text says no query; no text comes to `NoMemory`
+abbrev pub status_of_fault : ReadFault → Status
+status_of_fault (fault.NotInProfile place) = BadRequest
+status_of_fault (fault.OverLimit which place) = OutOfResources
+status_of_fault fault.NotDistinct = NotImplemented
+status_of_fault fault.NoMemory = OutOfResources
+
+-- the status that refuses what a text comes to, unless it is a query
+abbrev pub reading_refusal : Result Said ReadFault → Option Status
+reading_refusal (Ok query) = None
+reading_refusal (Err why) = Some (status_of_fault why)
+
+-- the status that refuses a wish for its text, unless this says a query
+abbrev pub wish_refusal : Wish → Option Status
+wish_refusal (Templates templates) = None
+wish_refusal (Sparql text) = reading_refusal (reading_of text)
+
+-- the status that refuses what is asked for because a query text says no query
+abbrev pub text_refusal : Ask → Option Status
+text_refusal Join = None
+text_refusal Leave = None
+text_refusal (Update remove insert confirm) = None
+text_refusal (Query wish) = wish_refusal wish
+text_refusal (Subscribe wish) = None
+text_refusal (Unsubscribe text) = None
 
 -- an update would pass a limit: of 262,144 triples after it, or of 268,435,456 bytes of named terms, each counted as the
 -- bytes of its text and 32
@@ -100,7 +125,7 @@ bare heads status = record { heads = heads; status = status; subscription = None
 abbrev pub granting : Space → Heads → Ask → Confirm
 granting space heads ask = record { heads = heads; status = Success; subscription = subscription_for space ask; answer = answer_for space ask }
 
--- a query would pass a limit: its answer has more than 65,536 rows, or its confirm more than 4,194,304 bytes
+-- a query would pass a limit: its width is more than 65,536, or its confirm more than 4,194,304 bytes
 abbrev pub is_wide : Space → Heads → Wish → Bool
 is_wide space heads wish = nat_lt 65536 (width_of space.graph wish) || nat_lt 4194304 (length (confirm_bytes (granting space heads (Query wish))))
 
@@ -137,17 +162,21 @@ unbuilt space request = refuse (not (is_built request.ask)) NotImplemented
 abbrev pub unfit : Rank
 unfit space request = refuse (is_unfit request.ask) BadRequest
 
+-- its query text says no query
+abbrev pub unread : Rank
+unread space request = text_refusal request.ask
+
 -- it would pass a limit
 abbrev pub over : Rank
 over space request = refuse (is_over space request.heads request.ask) OutOfResources
 
--- the ranks before the limits, in the order in which they decide
+-- the ranks before query texts and limits, in the order in which they decide
 abbrev pub early_ranks : List Rank
 early_ranks = elsewhere ∷ denied ∷ unbuilt ∷ unfit ∷ []
 
 -- all ranks, in the order in which they decide
 abbrev pub ranks : List Rank
-ranks = early_ranks ++ over ∷ []
+ranks = early_ranks ++ unread ∷ over ∷ []
 
 -- the status of the first rank that refuses a request
 abbrev pub first_of : List Rank → Space → Request → Option Status

@@ -28,8 +28,8 @@ use triple_index::{Change, IdTriple, IdTriples, Index, View};
 /// The triples of a graph by the numbers of their terms. A term that was named once keeps its number.
 #[derive(Drop)]
 pub(crate) struct Facts {
-    terms: Interner,
-    index: Index,
+    pub terms: Interner,
+    pub index: Index,
 }
 
 impl Model for Facts {

@@ -1,6 +1,7 @@
 //! The space: who joined, the links, and the facts that are shared.
 #![tactic(auto)]
 
+mod asking;
 mod call;
 mod confirm;
 mod facts;

@@ -3,7 +3,7 @@ ghost use Rattle.std.specs.Prelude.{◌≡◌, ◌+◌, ◌≤◌, ◌<◌, ◌^
 ghost use Rattle.std.specs.List.{list_any};
 ghost use Rattle.ssap_shape.specs.declared.request.Arrived.TheVariants as arrived;
 ghost use Rattle.session_core.specs.Space.{is_member};
-ghost use Rattle.session_core.specs.Requests.{is_for as is_for_it, is_stranger as stranger, is_built as built, is_answered as answered, is_no_triple as no_triple, is_unfit as unfit, wrong_status as wrong, first_of, early_ranks};
+ghost use Rattle.session_core.specs.Requests.{is_for as is_for_it, is_stranger as stranger, is_built as built, is_no_triple as no_triple, is_unfit as unfit, wrong_status as wrong, first_of, early_ranks};
 ghost use Rattle.session_core.specs.Steps.{delivered};
 ghost use Rattle.session_core.specs.Ranks.{asking, passed};
 ghost use Rattle.session_core.specs.Reads.{ask_cost};
@@ -11,25 +11,15 @@ ghost use Rattle.session_core.specs.Reads.{ask_cost};
 use crate::store::Store;
 use m3_terms::{NoMemory, Pattern, Patterns, Slot, Steps, Term, Text};
 use ssap_items::Heads;
-use ssap_shape::{Ask, Request, Status, Wish};
+use ssap_shape::{Ask, Request, Status};
 use std::alloc::Global;
 use std::sync::ledger::Ledger;
-
-fn is_answered(wish: &Wish) -> bool
-    ensures { result ≡ answered wish.now }
-{
-    match wish {
-        Wish::Templates(_) => true,
-        Wish::Sparql(_) => false,
-    }
-}
 
 fn is_built(ask: &Ask) -> bool
     ensures { result ≡ built ask.now }
 {
     match ask {
-        Ask::Join | Ask::Leave | Ask::Update { .. } => true,
-        Ask::Query(wish) => is_answered(wish),
+        Ask::Join | Ask::Leave | Ask::Update { .. } | Ask::Query(_) => true,
         Ask::Subscribe(_) | Ask::Unsubscribe(_) => false,
     }
 }
@@ -99,7 +89,7 @@ impl Store {
         }
     }
 
-    // The status of the first rank that refuses a request before its limits are looked at.
+    // The status of the first rank that refuses a request before its query text and its limits are looked at.
     fn refusal(&self, request: &Request) -> Option<Status>
         ensures { result ≡ first_of early_ranks self.now request.now }
     {
@@ -135,7 +125,7 @@ impl Store {
         }
     }
 
-    // Does a request that only its limits may refuse.
+    // Does a request that only its query text or its limits may refuse.
     fn pass<L: Ledger>(
         &mut self,
         alloc: Global,

@@ -32,13 +32,14 @@ const FOUND_ON: &[u8] =
 const FOUND_OFF: &[u8] =
     b"<SSAP_message><message_type>CONFIRM</message_type><transaction_type>QUERY</transaction_type><transaction_id>1</transaction_id><node_id>k</node_id><space_id>X</space_id><parameter name=\"status\">m3:Success</parameter><parameter name=\"results\"><triple_list><triple><subject type=\"uri\">lamp</subject><predicate>state</predicate><object type=\"literal\">off</object></triple></triple_list></parameter></SSAP_message>";
 
+const FOUND_STATE: &[u8] =
+    b"<SSAP_message><message_type>CONFIRM</message_type><transaction_type>QUERY</transaction_type><transaction_id>1</transaction_id><node_id>k</node_id><space_id>X</space_id><parameter name=\"status\">m3:Success</parameter><parameter name=\"results\"><sparql xmlns=\"http://www.w3.org/2005/sparql-results#\"><head><variable name=\"o\"/></head><results><result><binding name=\"o\"><literal>on</literal></binding></result></results></sparql></parameter></SSAP_message>";
+
 const SUCCESS: &[u8] = b"m3:Success</parameter></SSAP_message>";
 
 const DENIED: &[u8] = b"m3:SIB.Error.AccessDenied</parameter></SSAP_message>";
 
 const OVER: &[u8] = b"m3:SIB.Failure.OutOfResources</parameter></SSAP_message>";
-
-const UNBUILT: &[u8] = b"m3:SIB.Failure.NotImplemented</parameter></SSAP_message>";
 
 const WRONG: &[u8] = b"m3:KP.Error.Message.Syntax</parameter></SSAP_message>";
 
@@ -300,7 +301,7 @@ const CASES: [Case; 15] = [
     (b"N.J1T1Q1T1", "o1d1md1m", FOUND_NONE, 0, 0),
     (b"N.J1T1I1T1Q1T1", "o1d1md1md1m", FOUND_ON, 1, 1),
     (b"N.J1I1T1T1U1Q1T1T1", "o1d1d1mmd1d1mm", FOUND_OFF, 2, 1),
-    (b"N.J1T1S1T1", "o1d1md1m", UNBUILT, 0, 0),
+    (b"N.J1T1I1T1S1T1", "o1d1md1md1m", FOUND_STATE, 1, 1),
     (b"N.W1T1", "o1d1m", WRONG, 0, 0),
     (b"N.N.J2T1T2I1T2T1", "o1o2d2emd1em", INSERTED, 1, 1),
     (b"N.B1B1J1E1X1T1", "o1d1cccdv", b"", 0, 0),
