@@ -1,9 +1,9 @@
 #!/usr/bin/env bash
 # Measures the built program on queries in SPARQL, each over a graph of its own: stars of three patterns with one answer each over
-# 100,000 triples, by their subject and by a name; one join of two groups of 30,000 solutions on one variable, of which 5,000
-# join; one OPTIONAL over 26,000 left solutions of which half match; and one FILTER with CONTAINS over 65,000 texts, of which 500
-# pass. More of each would pass the limit on the width of a query. It prints the processor seconds of the queries, which is the
-# time of the script with them less that without them, the best of three. Where python3 has rdflib, it is given the same triples
+# 100,000 triples, by their subject and by a name; a join of two groups of 30,000 solutions on one variable, of which 5,000 join;
+# an OPTIONAL over 26,000 left solutions of which half match; and a FILTER with CONTAINS over 65,000 texts, of which 500 pass. More
+# of each would pass the limit on the width of a query. It prints the processor seconds of the queries, which is the time of the
+# script with them less that without them, the best of three. Where python3 has rdflib, it is given the same triples
 # and the same queries, in the same run. It is no part of the gate.
 cd "$(dirname "$0")/.." || exit 1
 program="crates/sib/out/sib"
@@ -89,7 +89,7 @@ seconds() {
 }
 
 # Processor seconds of rdflib for the queries alone, and the rows of all answers.
-cat >"$scratch/rdflib.py" <<'PYTHON'
+cat >"$scratch/ask.py" <<'PYTHON'
 import sys, time
 from rdflib import Graph, Literal, URIRef
 graph = Graph()
@@ -124,12 +124,12 @@ measure() {
     echo "$1: $(awk -v a="$with" -v b="$without" 'BEGIN { printf "%.2f", a - b }') s for $4, $rows rows"
     if [ -n "$python" ]; then
         head -n "$5" "$scratch/queries" >"$scratch/some"
-        echo "    rdflib, $5 of them: $("$python" "$scratch/rdflib.py" "$scratch/triples" "$scratch/some")"
+        echo "    rdflib, $5 of them: $("$python" "$scratch/ask.py" "$scratch/triples" "$scratch/some")"
     fi
 }
 
 measure "stars of three patterns, by their subject" star subject 20000 2000
-measure "stars of three patterns, by a name" star star 200 200
-measure "a join of two groups of 30,000" join join 1 1
-measure "an OPTIONAL over 26,000" optional optional 1 1
-measure "a FILTER with CONTAINS over 65,000" filter filter 1 1
+measure "stars of three patterns, by a name" star star 2000 200
+measure "a join of two groups of 30,000" join join 20 1
+measure "an OPTIONAL over 26,000" optional optional 20 1
+measure "a FILTER with CONTAINS over 65,000" filter filter 20 1
