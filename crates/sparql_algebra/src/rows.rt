@@ -1,4 +1,4 @@
-ghost use Rattle.std.specs.Prelude.{◌≡◌, ◌≤◌, ◌<◌, ◌↔◌, ◌+◌, ◌∷◌, ◌++◌, [], IsTrue, IsOk, OnOk, OnErr, Contains, length, option_copied, slice_get};
+ghost use Rattle.std.specs.Prelude.{◌≡◌, ◌≤◌, ◌<◌, ◌↔◌, ◌+◌, ◌∷◌, ◌++◌, [], IsTrue, IsOk, OnOk, OnErr, IfSome, MatchOption, Contains, length, option_copied, slice_get};
 ghost use Rattle.std.specs.List.{IsDistinct};
 ghost use Rattle.sparql_algebra.specs.Solutions.{solution_eq, three, AreRising, IsWithoutRow};
 
@@ -107,6 +107,15 @@ impl IdRows {
         ensures room { self.old.room ≤ self.new.room }
     {
         self.rows.swap_remove(row);
+    }
+
+    /// Takes out the last row, or nothing where there is none. It takes no memory.
+    pub fn pop(&mut self) -> Option<Mapping>
+        ensures rows { MatchOption result ((self.old.rows ≡ []) × (self.new.rows ≡ [])) (λ row. self.old.rows ≡ self.new.rows ++ row ∷ []) }
+        ensures once { IfSome result (λ row. Contains self.new.rows row → ⊥) }
+        ensures room { self.old.room ≤ self.new.room }
+    {
+        self.rows.pop()
     }
 
     /// Appends the row whose variables 0, 1 and 2 have these numbers. It asks that this row isn't here.
