@@ -18,3 +18,4 @@ pub mod ListedWidths
 pub mod ListedAnswers
 pub mod StandForLaws
 pub mod MembersDecide
+mod ConstantsAppended

@@ -17,3 +17,4 @@ pub mod Near
 pub mod Listed
 pub mod ListedLaws
 pub mod StandFor
+pub mod Constants

@@ -2,6 +2,7 @@
 #![tactic(auto)]
 
 mod algebra;
+mod constants;
 mod expr;
 mod filter;
 mod gather;
