@@ -16,18 +16,10 @@ use Rattle.sparql_text.specs.Scope.{Declaration, Scope, scope_of}
 use Rattle.sparql_text.specs.Values.{token_of}
 use Rattle.sparql_text.proofs.TextsLexed.{texts_lexed}
 use Rattle.sparql_text.proofs.TokensTaken.{lexes_more, alone_more}
-use Rattle.sparql_text.proofs.Unescaping.{one_value}
+use Rattle.sparql_text.proofs.LexemesStandForOne.{stands_for_one}
 use Rattle.sparql_read.specs.declared.draft.Draft.{Draft}
 use Rattle.sparql_read.specs.Drafting.{with_token, drafted, blank_draft, query_in, QueriesAreDrafted}
 use Rattle.sparql_read.specs.Drafted.{AreDrafted}
-
--- a lexeme stands for one token
-stands_for_one : (lexeme : Lexeme) (token : Token) → StandsFor lexeme token → token ≡ token_of lexeme
-stands_for_one (lexeme.Iri iri) token e = e
-stands_for_one (lexeme.Name prefix local) token e = e
-stands_for_one (lexeme.Variable name) token e = e
-stands_for_one (lexeme.String raw) token (value, is, e) = e ∙ ap (λ v. String v) (sym (one_value is.0 raw.now value is.2))
-stands_for_one (lexeme.Fixed word) token e = e
 
 -- one more token
 drafted_last : (scope : Scope) (draft : Draft) (tokens : List Token) (token : Token)

@@ -20,6 +20,7 @@ pub mod PastGrowing
 pub mod DistinctForms
 pub mod TokensJudged
 pub mod Unescaping
+pub mod LexemesStandForOne
 pub mod TextsTested
 pub mod FirstTokensFound
 pub mod GapsFound
