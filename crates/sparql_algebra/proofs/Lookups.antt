@@ -1,6 +1,6 @@
 -- Bindings by rising variable are told by their lookups; lookups of an insertion and of a merge.
-use Rattle.std.proofs.Common.{◌≡◌, ◌∙◌, ℕ, suc, ◌+◌, ◌<◌, ◌≤◌, Bool, true, false, cond, List, [], ◌∷◌, filter, nat_eq, zero, length, take, get_or, Option, None, Some, refl, sym, ap, subst, arith, ◌⊎◌, inl, inr, ◌&&◌}
-use Rattle.std.proofs.lemmas.Bool.{eqb-true, eqb-false, eq-eqb, ne_eqb, cases_lt}
+use Rattle.std.proofs.Common.{◌≡◌, ◌∙◌, ℕ, suc, ◌+◌, ◌<◌, ◌≤◌, Bool, true, false, cond, List, [], ◌∷◌, filter, nat_eq, zero, length, take, get_or, Option, None, Some, refl, sym, ap, subst, arith, ◌⊎◌, inl, inr}
+use Rattle.std.proofs.lemmas.Bool.{eqb-true, eqb-false, eq-eqb, ne_eqb, cases_lt, and_from}
 use Rattle.std.proofs.lemmas.Option.{none-some}
 use Rattle.std.specs.Cmp.{first_so, second_so, IsTotalOrder, on_total, nat_cmp_total, nat_cmp_is}
 use Rattle.std.specs.List.{AllByRecursion, list_all}
@@ -33,10 +33,6 @@ found_so b x o h = rw h refl
 
 pub found_not : {X : Type 0} (b : Bool) (x : X) (o : Option X) → b ≡ false → cond b (Some x) o ≡ o
 found_not b x o h = rw h refl
-
--- two tests that hold hold together
-pub both_so : (a b : Bool) → a ≡ true → b ≡ true → (a && b) ≡ true
-both_so a b h k = rw (h, k) refl
 
 module _ {B : Type 0} (var_of : B → ℕ) where
   -- the variables of some bindings are above a number
@@ -287,7 +283,7 @@ module _ {B : Type 0} (var_of : B → ℕ) where
   unfolding IsStrictlySortedBy
   all_found p [] r h = refl
   all_found p (b ∷ bs) r h =
-      both_so (p b) (list_all p bs) (h (var_of b) b (first_found b bs))
+      and_from (p b) (list_all p bs) (h (var_of b) b (first_found b bs))
       (all_found p bs r.1 (λ v x e. h v x (found_first b x bs v r.0 _ refl e)))
 
   -- a binding to come of a compatible solution is in the merge so far where its variable is bound there

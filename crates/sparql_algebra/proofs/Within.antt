@@ -1,13 +1,12 @@
 -- A text has another in it exactly where a search finds the other.
 use Rattle.std.proofs.Common.{◌≡◌, ◌∙◌, ℕ, zero, suc, ◌+◌, ◌<◌, Bool, true, false, ◌||◌, List, [], ◌∷◌, length, get_or, take, nat_eq, Option, None, Some, refl, sym, subst, arith}
-use Rattle.std.proofs.lemmas.Bool.{eqb-true, eq-eqb}
+use Rattle.std.proofs.lemmas.Bool.{eqb-true, eq-eqb, and_from}
 use Rattle.std.specs.List.{starts_with}
 use Rattle.std.specs.Option.{is_some}
 use Rattle.std.specs.Cmp.{first_so, second_so}
 use Rattle.std.specs.Cmp.Lexicographic.{pointwise}
 use Rattle.memchr.specs.Find.{OccursAt, FindsNeedle, Nowhere}
 use Rattle.sparql_algebra.specs.Truth.{has_within}
-use Rattle.sparql_algebra.proofs.Lookups.{both_so}
 
 -- what stands in the rest of a text stands one byte later in the text, and the other way round
 later : (t : ℕ) (ts part : List ℕ) (k : ℕ) → OccursAt ts part k → OccursAt (t ∷ ts) part (suc k)
@@ -42,7 +41,7 @@ starts_so : (text part : List ℕ) → OccursAt text part 0 → starts_with nat_
 starts_so text [] o = refl
 starts_so [] (p ∷ ps) o = absurd (omega (arith, o.fits))
 starts_so (t ∷ ts) (p ∷ ps) o =
-    both_so (nat_eq p t) (pointwise nat_eq ps (take (length ps) ts)) (eq-eqb p t (sym (o.reads 0 (omega arith)))) (starts_so ts ps (rest_at t p ts ps o))
+    and_from (nat_eq p t) (pointwise nat_eq ps (take (length ps) ts)) (eq-eqb p t (sym (o.reads 0 (omega arith)))) (starts_so ts ps (rest_at t p ts ps o))
 
 -- and the other way round
 starts_is : (text part : List ℕ) → starts_with nat_eq text part ≡ true → OccursAt text part 0

@@ -1,8 +1,8 @@
 -- The fault that is found first among tokens is the first that there is.
-use Rattle.std.proofs.Common.{◌≡◌, ℕ, Bool, true, false, not, ◌&&◌, List, [], ◌∷◌, ◌++◌, Option, Some, None, refl, sym, ◌∙◌, ap, append_assoc}
+use Rattle.std.proofs.Common.{◌≡◌, ℕ, Bool, true, false, not, List, [], ◌∷◌, ◌++◌, Option, Some, None, refl, sym, ◌∙◌, ap, append_assoc}
 use Rattle.std.specs.Prelude.{is_some}
 use Rattle.std.specs.Option.{option_map, option_or}
-use Rattle.std.proofs.lemmas.Bool.{both_ways}
+use Rattle.std.proofs.lemmas.Bool.{both_ways, and_parts}
 use Rattle.std.proofs.lemmas.List.{append-nil}
 use Rattle.sparql_text.specs.declared.fault.ReadFault.{ReadFault}
 use Rattle.sparql_text.specs.declared.fault.ReadFault.TheVariants as fault
@@ -50,14 +50,10 @@ undeclared_told before (Variable name) h = absurd (cc)
 undeclared_told before (String value) h = absurd (cc)
 undeclared_told before (Fixed word) h = absurd (cc)
 
-both_true : (a b : Bool) → (a && b) ≡ true → (a ≡ true) × (b ≡ true)
-both_true true b e = (refl, e)
-both_true false b e = absurd (cc)
-
 -- a token that is found in the profile is
 in_profile : (before : List Token) (token : Token) → is_in_profile before token ≡ true → IsInProfile before token
 in_profile before token e =
-    let parts = both_true (is_some (stack_behind (before ++ token ∷ []))) (not (is_undeclared before token)) e in
+    let parts = and_parts (is_some (stack_behind (before ++ token ∷ []))) (not (is_undeclared before token)) e in
     record {
       viable = (takes_viable (before ++ token ∷ [])).1 parts.0;
       declared = λ u. both_ways (not (is_undeclared before token)) (ap not (undeclared_found before token u)) parts.1;

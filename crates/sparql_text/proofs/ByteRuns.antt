@@ -1,24 +1,11 @@
 -- Runs of bytes that pass a test, and dots at their end.
 use Rattle.std.proofs.Common.{◌≡◌, ℕ, zero, suc, ◌+◌, ◌≤◌, Bool, true, false, ◌&&◌, cond, not, ◌==◌, List, [], ◌∷◌, ◌++◌, length, take, drop, refl, sym, ◌∙◌, ap, subst, arith, IsTrue}
 use Rattle.std.specs.List.{list_all, prefix_len}
-use Rattle.std.proofs.lemmas.Bool.{both_ways}
+use Rattle.std.proofs.lemmas.Bool.{both_ways, and_parts, and_from}
 use Rattle.std.proofs.lemmas.List.{take-append-drop, take_at, length-take-le, take-append-le}
 use Rattle.m3_terms.proofs.Lists.{heads_same, tails_same}
 use Rattle.sparql_text.specs.Tokens.{ends_in_dot, is_letter, is_prefix, is_prefix_byte, is_local, is_local_first, is_local_byte}
 use Rattle.sparql_text.specs.Cutting.{Stops, IsRun, IsLongestLocal}
-
--- the parts of a conjunction
-pub first_part : (a b : Bool) → (a && b) ≡ true → a ≡ true
-first_part true b h = refl
-first_part false b h = absurd (cc)
-
-pub second_part : (a b : Bool) → (a && b) ≡ true → b ≡ true
-second_part true b h = h
-second_part false b h = absurd (cc)
-
-pub both_parts : (a b : Bool) → a ≡ true → b ≡ true → (a && b) ≡ true
-both_parts true b h k = k
-both_parts false b h k = absurd (cc)
 
 -- one more byte that passes
 run_more : (p : ℕ → Bool) (byte : ℕ) (bytes : List ℕ) (n : ℕ) → p byte ≡ true → IsRun p bytes (take n bytes) (drop n bytes)
@@ -27,7 +14,7 @@ run_more p byte bytes n passes r =
     let up : suc n ≡ 1 + n = omega arith in
     subst (λ k. IsRun p (byte ∷ bytes) (take k (byte ∷ bytes)) (drop k (byte ∷ bytes))) up (record {
       split = ap (λ l. byte ∷ l) r.split;
-      pass = both_parts (p byte) (list_all p (take n bytes)) passes r.pass;
+      pass = and_from (p byte) (list_all p (take n bytes)) passes r.pass;
       stops = r.stops;
     })
 
@@ -51,10 +38,10 @@ pub run_longest : (p : ℕ → Bool) (front rest other left : List ℕ) → Stop
 run_longest p [] rest [] left stops pass e = omega arith
 run_longest p [] [] (x ∷ other) left stops pass e = absurd (cc)
 run_longest p [] (byte ∷ rest) (x ∷ other) left stops pass e =
-    absurd (both_ways (p byte) stops (ap p (heads_same byte x rest (other ++ left) e) ∙ first_part (p x) (list_all p other) pass))
+    absurd (both_ways (p byte) stops (ap p (heads_same byte x rest (other ++ left) e) ∙ (and_parts (p x) (list_all p other) pass).0))
 run_longest p (x ∷ front) rest [] left stops pass e = omega arith
 run_longest p (x ∷ front) rest (y ∷ other) left stops pass e =
-    let more = run_longest p front rest other left stops (second_part (p y) (list_all p other) pass) (tails_same x y (front ++ rest) (other ++ left) e) in
+    let more = run_longest p front rest other left stops (and_parts (p y) (list_all p other) pass).1 (tails_same x y (front ++ rest) (other ++ left) e) in
     omega (arith, more)
 
 -- bytes that pass and stand before one that does not are the run
@@ -63,11 +50,11 @@ pub run_once : (p : ℕ → Bool) (front rest other : List ℕ) (stop : ℕ) (le
 run_once p [] rest [] stop left all stops pass other_stop e = (refl, e)
 run_once p [] [] (y ∷ other) stop left all stops pass other_stop e = absurd (cc)
 run_once p [] (byte ∷ rest) (y ∷ other) stop left all stops pass other_stop e =
-    absurd (both_ways (p byte) stops (ap p (heads_same byte y rest (other ++ stop ∷ left) e) ∙ first_part (p y) (list_all p other) pass))
+    absurd (both_ways (p byte) stops (ap p (heads_same byte y rest (other ++ stop ∷ left) e) ∙ (and_parts (p y) (list_all p other) pass).0))
 run_once p (x ∷ front) rest [] stop left all stops pass other_stop e =
-    absurd (both_ways (p x) (ap p (heads_same x stop (front ++ rest) left e) ∙ other_stop) (first_part (p x) (list_all p front) all))
+    absurd (both_ways (p x) (ap p (heads_same x stop (front ++ rest) left e) ∙ other_stop) (and_parts (p x) (list_all p front) all).0)
 run_once p (x ∷ front) rest (y ∷ other) stop left all stops pass other_stop e =
-    let more = run_once p front rest other stop left (second_part (p x) (list_all p front) all) stops (second_part (p y) (list_all p other) pass) other_stop
+    let more = run_once p front rest other stop left (and_parts (p x) (list_all p front) all).1 stops (and_parts (p y) (list_all p other) pass).1 other_stop
     (tails_same x y (front ++ rest) (other ++ stop ∷ left) e) in
     let head = heads_same x y (front ++ rest) (other ++ stop ∷ left) e in
     let tail : front ≡ other = more.0 in
@@ -86,7 +73,7 @@ dot_last bytes front last e = ap ends_in_dot e ∙ dot_at front last
 pub prefix_at : (bytes : List ℕ) (first : ℕ) (others : List ℕ) (dot : Bool) → bytes ≡ first ∷ others → list_all is_prefix_byte bytes ≡ true
     → is_letter first ≡ true → dot ≡ ends_in_dot others → not dot ≡ is_prefix bytes
 prefix_at bytes first others dot split pass letter e =
-    let all = second_part (is_prefix_byte first) (list_all is_prefix_byte others) (subst (λ l. list_all is_prefix_byte l ≡ true) split pass) in
+    let all = (and_parts (is_prefix_byte first) (list_all is_prefix_byte others) (subst (λ l. list_all is_prefix_byte l ≡ true) split pass)).1 in
     ap not e ∙ (sym (values (is_letter first) (list_all is_prefix_byte others) (not (ends_in_dot others)) letter all) ∙ ap is_prefix (sym split))
   where
     values : (a b c : Bool) → a ≡ true → b ≡ true → (a && b && c) ≡ c
@@ -99,7 +86,7 @@ pub all_front : (p : ℕ → Bool) (n : ℕ) (bytes : List ℕ) → list_all p b
 all_front p zero bytes h = refl
 all_front p (suc n) [] h = refl
 all_front p (suc n) (byte ∷ bytes) h =
-    both_parts (p byte) (list_all p (take n bytes)) (first_part (p byte) (list_all p bytes) h) (all_front p n bytes (second_part (p byte) (list_all p bytes) h))
+    and_from (p byte) (list_all p (take n bytes)) (and_parts (p byte) (list_all p bytes) h).0 (all_front p n bytes (and_parts (p byte) (list_all p bytes) h).1)
 
 -- the longest local part: its first byte, and of the run behind that what is before the dots at its end
 pub local_longest : (bytes : List ℕ) (first : ℕ) (others inner after : List ℕ) (n : ℕ) → bytes ≡ first ∷ others → is_local_first first ≡ true
@@ -111,8 +98,8 @@ local_longest bytes first others inner after n split begins r short undotted mos
     let P : List ℕ → ℕ → Type 0 = λ b k. IsLongestLocal b (take k b) (drop k b) in
     subst (λ k. P bytes k) up (subst (λ b. P b (suc n)) (sym split) (record {
       split = ap (λ l. first ∷ l) (sym (take-append-drop n others));
-      local = both_parts (is_local_first first && list_all is_local_byte (take n others)) (not (ends_in_dot (take n others)))
-          (both_parts (is_local_first first) (list_all is_local_byte (take n others)) begins
+      local = and_from (is_local_first first && list_all is_local_byte (take n others)) (not (ends_in_dot (take n others)))
+          (and_from (is_local_first first) (list_all is_local_byte (take n others)) begins
           (subst (λ l. list_all is_local_byte l ≡ true) (sym same) (all_front is_local_byte n inner r.pass)))
           (subst (λ l. not (ends_in_dot l) ≡ true) (sym same) (ap not undotted));
       longest = longest;
@@ -124,9 +111,9 @@ local_longest bytes first others inner after n split begins r short undotted mos
     longest : (other left : List ℕ) → IsTrue (is_local other) → first ∷ others ≡ other ++ left → length other ≤ suc (length (take n others))
     longest [] left local e = omega arith
     longest (y ∷ other) left local e =
-        let passes = second_part (is_local_first y) (list_all is_local_byte other)
-        (first_part (is_local_first y && list_all is_local_byte other) (not (ends_in_dot other)) local) in
-        let plain = undone (ends_in_dot other) (second_part (is_local_first y && list_all is_local_byte other) (not (ends_in_dot other)) local) in
+        let passes = (and_parts (is_local_first y) (list_all is_local_byte other)
+        (and_parts (is_local_first y && list_all is_local_byte other) (not (ends_in_dot other)) local).0).1 in
+        let plain = undone (ends_in_dot other) (and_parts (is_local_first y && list_all is_local_byte other) (not (ends_in_dot other)) local).1 in
         let tail : inner ++ after ≡ other ++ left = sym r.split ∙ tails_same first y others (other ++ left) e in
         let long = run_longest is_local_byte inner after other left r.stops passes tail in
         let front : take (length other) inner ≡ other = sym (take-append-le (length other) inner after long) ∙ (ap (take (length other)) tail ∙ take_at other left (length other) refl) in
@@ -146,9 +133,9 @@ longest_local_at bytes front rest a b e f h = subst (λ r. IsLongestLocal bytes 
 pub prefix_all : (bytes : List ℕ) → IsTrue (is_prefix bytes) → list_all is_prefix_byte bytes ≡ true
 prefix_all [] h = refl
 prefix_all (byte ∷ bytes) h =
-    let front = first_part (is_letter byte && list_all is_prefix_byte bytes) (not (ends_in_dot bytes)) h in
-    both_parts (is_prefix_byte byte) (list_all is_prefix_byte bytes) (letter byte (first_part (is_letter byte) (list_all is_prefix_byte bytes) front))
-    (second_part (is_letter byte) (list_all is_prefix_byte bytes) front)
+    let front = (and_parts (is_letter byte && list_all is_prefix_byte bytes) (not (ends_in_dot bytes)) h).0 in
+    and_from (is_prefix_byte byte) (list_all is_prefix_byte bytes) (letter byte (and_parts (is_letter byte) (list_all is_prefix_byte bytes) front).0)
+    (and_parts (is_letter byte) (list_all is_prefix_byte bytes) front).1
   where
     letter : (b : ℕ) → is_letter b ≡ true → is_prefix_byte b ≡ true
     letter b h = rw h refl

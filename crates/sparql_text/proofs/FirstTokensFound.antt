@@ -3,7 +3,7 @@ use Rattle.std.proofs.Common.{◌≡◌, ◌≢◌, ◌⊎◌, inl, inr, ℕ, ze
 use Rattle.std.specs.Prelude.{IsTrue}
 use Rattle.std.specs.List.{list_all}
 use Rattle.std.specs.Option.{option_map}
-use Rattle.std.proofs.lemmas.Bool.{both_ways, eqb-true}
+use Rattle.std.proofs.lemmas.Bool.{both_ways, eqb-true, and_parts, and_from}
 use Rattle.std.proofs.lemmas.List.{take-append-drop, drop-drop, length-drop}
 use Rattle.std.proofs.Math.Seq.{take-add}
 use Rattle.m3_terms.specs.Text.{IsText}
@@ -15,7 +15,7 @@ use Rattle.sparql_text.specs.Lexing.{Reads, Begins}
 use Rattle.sparql_text.specs.Cutting.{IsRun, IsLongestLocal, begins_with, piece_len}
 use Rattle.sparql_text.specs.Values.{unescaped}
 use Rattle.sparql_text.specs.FirstTokens.{FirstToken, is_text, run, behind_run, iri_closed, iri_at, variable_named, variable_at, pieces_len, string_closed, string_behind, string_at, undotted_len, local_len, name_behind, name_at, words, word_taken, word_at, either, token_at}
-use Rattle.sparql_text.proofs.ByteRuns.{first_part, second_part, both_parts, run_of, local_longest}
+use Rattle.sparql_text.proofs.ByteRuns.{run_of, local_longest}
 use Rattle.sparql_text.proofs.StringPieces.{Next, next_piece, piece_word, unescapes_both}
 use Rattle.sparql_text.proofs.StringPieces.Next.{AtEnd, AtPiece}
 use Rattle.sparql_text.proofs.Unescaping.{one_value}
@@ -55,10 +55,10 @@ iri_behind bytes more value (byte ∷ rest) opens r = go (byte == 62 && not (len
     go : (t : Bool) → (byte == 62 && not (length value == 0) && is_text value) ≡ t
         → IsFirstToken bytes (NoIri bytes) (cond t (Some (record { token = Iri value; rest = rest })) None)
     go true e =
-        let text = passes_text value (second_part (byte == 62 && not (length value == 0)) (is_text value) e) in
-        let both = first_part (byte == 62 && not (length value == 0)) (is_text value) e in
-        let close = eqb-true byte 62 (first_part (byte == 62) (not (length value == 0)) both) in
-        let some = some_is value (undone (length value == 0) (second_part (byte == 62) (not (length value == 0)) both)) in
+        let text = passes_text value (and_parts (byte == 62 && not (length value == 0)) (is_text value) e).1 in
+        let both = (and_parts (byte == 62 && not (length value == 0)) (is_text value) e).0 in
+        let close = eqb-true byte 62 (and_parts (byte == 62) (not (length value == 0)) both).0 in
+        let some = some_is value (undone (length value == 0) (and_parts (byte == 62) (not (length value == 0)) both).1) in
         iri_begins bytes value rest (
           60 ∷ value ++ 62 ∷ [],
           (text, some, r.pass, refl),
@@ -71,8 +71,8 @@ iri_behind bytes more value (byte ∷ rest) opens r = go (byte == 62 && not (len
     go false e = λ other left reads.
         let same = iri_is_run bytes more value (byte ∷ rest) other left opens r reads in
         both_ways (byte == 62 && not (length value == 0) && is_text value) e
-        (both_parts (byte == 62 && not (length value == 0)) (is_text value)
-        (both_parts (byte == 62) (not (length value == 0)) (ap (λ b. b == 62) (heads_same byte 62 rest left same.1))
+        (and_from (byte == 62 && not (length value == 0)) (is_text value)
+        (and_from (byte == 62) (not (length value == 0)) (ap (λ b. b == 62) (heads_same byte 62 rest left same.1))
         (some_bytes value (λ none. reads.1.1 (sym same.0 ∙ none))))
         (text_passes value (subst IsText (sym same.0) reads.1.0)))
       where
@@ -199,16 +199,16 @@ string_ends bytes more raw (byte ∷ rest) value quote is opens split x ends = g
     go : (t : Bool) → (byte == quote && is_text raw) ≡ t
         → IsFirstToken bytes (NoString bytes) (cond t (Some (record { token = String (unescaped raw); rest = rest })) None)
     go true e =
-        let close = eqb-true byte quote (first_part (byte == quote) (is_text raw) e) in
+        let close = eqb-true byte quote (and_parts (byte == quote) (is_text raw) e).0 in
         string_begins bytes (unescaped raw) rest
         (string_found bytes more raw (unescaped raw) rest quote is opens (split ∙ ap (λ b. raw ++ b ∷ rest) close)
-        (subst (Unescapes quote raw) (sym (one_value quote raw value x)) x) (passes_text raw (second_part (byte == quote) (is_text raw) e)))
+        (subst (Unescapes quote raw) (sym (one_value quote raw value x)) x) (passes_text raw (and_parts (byte == quote) (is_text raw) e).1))
     go false e = λ other left reads.
         let behind = read_behind bytes more other left quote opens reads in
         let close = heads_same byte quote rest left (ends reads.1.1 other left behind.0 behind.1) in
         let same = (string_is bytes more raw value rest other left quote is opens (split ∙ ap (λ b. raw ++ b ∷ rest) close) x reads).0 in
         both_ways (byte == quote && is_text raw) e
-        (both_parts (byte == quote) (is_text raw) (equal byte quote close) (text_passes raw (subst IsText (sym same) reads.1.3)))
+        (and_from (byte == quote) (is_text raw) (equal byte quote close) (text_passes raw (subst IsText (sym same) reads.1.3)))
       where
         equal : (m n : ℕ) → m ≡ n → (m == n) ≡ true
         equal m n e = grind arith
@@ -286,8 +286,8 @@ local_exact (first ∷ bytes) = go (is_local_first first) refl
         longest [] left local f = omega arith
         longest (b ∷ other) left local f = absurd (both_ways (is_local_first first) e
             (ap is_local_first (heads_same first b bytes (other ++ left) f)
-            ∙ first_part (is_local_first b) (list_all is_local_byte other)
-            (first_part (is_local_first b && list_all is_local_byte other) (not (ends_in_dot other)) local)))
+            ∙ (and_parts (is_local_first b) (list_all is_local_byte other)
+            (and_parts (is_local_first b && list_all is_local_byte other) (not (ends_in_dot other)) local).0).0))
 
 -- a name is the run of its prefix, `:` and the longest local part
 name_ends : (bytes prefix after : List ℕ) → IsRun is_prefix_byte bytes prefix after → IsFirstToken bytes (NoName bytes) (name_behind prefix after)
@@ -299,18 +299,18 @@ name_ends bytes prefix (byte ∷ more) r = go (byte == 58 && is_prefix prefix) r
     go true e =
         let local = take (local_len more) more in
         let rest = drop (local_len more) more in
-        let colon : byte ∷ more ≡ 58 ∷ more = ap (λ b. b ∷ more) (eqb-true byte 58 (first_part (byte == 58) (is_prefix prefix) e)) in
+        let colon : byte ∷ more ≡ 58 ∷ more = ap (λ b. b ∷ more) (eqb-true byte 58 (and_parts (byte == 58) (is_prefix prefix) e).0) in
         let longest = local_exact more in
         name_begins bytes prefix local rest (
           prefix ++ 58 ∷ local,
-          (second_part (byte == 58) (is_prefix prefix) e, longest.local, refl),
+          ((and_parts (byte == 58) (is_prefix prefix) e).1, longest.local, refl),
           r.split ∙ (ap (λ l. prefix ++ l) (colon ∙ ap (λ l. 58 ∷ l) longest.split) ∙ sym (append_assoc prefix (58 ∷ local) rest)),
         )
         (name_longest bytes prefix (byte ∷ more) more local rest r colon longest)
     go false e = λ other part left reads.
         let same = name_is_run bytes prefix (byte ∷ more) other part left r reads in
         both_ways (byte == 58 && is_prefix prefix) e
-        (both_parts (byte == 58) (is_prefix prefix) (ap (λ b. b == 58) (heads_same byte 58 more (part ++ left) same.1))
+        (and_from (byte == 58) (is_prefix prefix) (ap (λ b. b == 58) (heads_same byte 58 more (part ++ left) same.1))
         (subst (λ p. IsTrue (is_prefix p)) (sym same.0) reads.1.0))
 
 name_exact : (bytes : List ℕ) → IsFirstToken bytes (NoName bytes) (name_at bytes)

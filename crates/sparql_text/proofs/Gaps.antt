@@ -2,7 +2,7 @@
 use Rattle.std.proofs.Common.{◌≡◌, inl, inr, ℕ, zero, suc, ◌+◌, ◌<◌, ◌≤◌, Bool, true, false, not, List, [], ◌∷◌, ◌++◌, length, take, drop, get_or, refl, sym, ◌∙◌, ap, subst, arith}
 use Rattle.std.specs.Prelude.{Option, Some, None, IfNone}
 use Rattle.std.specs.List.{list_all}
-use Rattle.std.proofs.lemmas.Bool.{false_from_ne_true, both_ways}
+use Rattle.std.proofs.lemmas.Bool.{false_from_ne_true, both_ways, and_from}
 use Rattle.std.proofs.lemmas.List.{drop_all, drop_more, take-append-drop, length-append}
 use Rattle.memchr.specs.Find.{Passes, Nowhere, NoneBefore}
 use Rattle.m3_terms.specs.Text.{IsText}
@@ -12,7 +12,7 @@ use Rattle.sparql_text.specs.Lexing.{Gap, IsLineEnd, is_white, is_inline, ends_l
 use Rattle.sparql_text.specs.Lexing.Gap.{Nothing, White, Comment}
 use Rattle.sparql_text.specs.Cutting.{Stops, IsRun, IsComment, GapPiece}
 use Rattle.sparql_text.specs.Cutting.GapPiece.{WhitePiece, CommentPiece}
-use Rattle.sparql_text.proofs.ByteRuns.{both_parts, run_longest}
+use Rattle.sparql_text.proofs.ByteRuns.{run_longest}
 use Rattle.sparql_text.proofs.Words.{reads_begins}
 use Rattle.sparql_text.proofs.TokenReadings.{iri_bytes, variable_bytes, name_bytes, string_bytes_of}
 use Rattle.sparql_text.proofs.TokenBegins.{some_spelling}
@@ -22,7 +22,7 @@ inline_take : (bytes : List ℕ) (place : ℕ) → ((k : ℕ) → k < place → 
 inline_take bytes zero h = refl
 inline_take [] (suc place) h = refl
 inline_take (byte ∷ bytes) (suc place) h =
-    both_parts (is_inline byte) (list_all is_inline (take place bytes)) (ap not (false_from_ne_true (ends_line byte) (h 0 (omega arith))))
+    and_from (is_inline byte) (list_all is_inline (take place bytes)) (ap not (false_from_ne_true (ends_line byte) (h 0 (omega arith))))
     (inline_take bytes place (λ k below. h (suc k) (omega arith)))
 
 stops_at : (bytes rest : List ℕ) (byte : ℕ) → bytes ≡ byte ∷ rest → ends_line byte ≡ true → Stops is_inline bytes

@@ -3,7 +3,7 @@ use Rattle.std.proofs.Common.{◌≡◌, inl, inr, ℕ, zero, suc, ◌≤◌, �
 use Rattle.std.specs.Prelude.{unwrap_or}
 use Rattle.std.specs.Char.{to_ascii_lowercase}
 use Rattle.std.specs.Option.{option_map}
-use Rattle.std.proofs.lemmas.Bool.{both_ways, eqb-true}
+use Rattle.std.proofs.lemmas.Bool.{both_ways, eqb-true, and_parts, and_from}
 use Rattle.std.proofs.lemmas.List.{length-append, append_cancel_left}
 use Rattle.m3_terms.proofs.Lists.{heads_same, tails_same}
 use Rattle.sparql_text.specs.declared.word.Word.{Word}
@@ -14,7 +14,7 @@ use Rattle.sparql_text.specs.Lexing.Gap.{Nothing, White, Comment}
 use Rattle.sparql_text.specs.Cutting.{Stops, IsComment, GapPiece}
 use Rattle.sparql_text.specs.Cutting.GapPiece.{WhitePiece, CommentPiece}
 use Rattle.sparql_text.specs.FirstTokens.{is_text, run, behind_run, behind_piece, behind_gap}
-use Rattle.sparql_text.proofs.ByteRuns.{first_part, second_part, both_parts, run_of}
+use Rattle.sparql_text.proofs.ByteRuns.{run_of}
 use Rattle.sparql_text.proofs.TokenReadings.{iri_bytes, variable_bytes, name_bytes, string_bytes_of}
 use Rattle.sparql_text.proofs.TokenBegins.{folded_byte, initial, word_first, prefix_first}
 use Rattle.sparql_text.proofs.Gaps.{end_line, runs_same, comment_none, piece_none, gap_stops}
@@ -52,10 +52,10 @@ piece_exact (byte ∷ bytes) = white (is_white byte) refl
         → IsBehindPiece (byte ∷ bytes) (cond t (Some (behind_run is_inline bytes)) None)
     comment black true e =
         let r = run_of is_inline bytes (run is_inline bytes) (behind_run is_inline bytes) refl refl in
-        let hash = eqb-true byte 35 (first_part (byte == 35) (is_text (run is_inline bytes)) e) in
+        let hash = eqb-true byte 35 (and_parts (byte == 35) (is_text (run is_inline bytes)) e).0 in
         CommentPiece (record {
           text = run is_inline bytes;
-          is = passes_text (run is_inline bytes) (second_part (byte == 35) (is_text (run is_inline bytes)) e);
+          is = passes_text (run is_inline bytes) (and_parts (byte == 35) (is_text (run is_inline bytes)) e).1;
           inline = r.pass;
           ends = line_end (behind_run is_inline bytes) r.stops;
           split = ap (λ b. b ∷ bytes) hash ∙ ap (λ l. 35 ∷ l) r.split;
@@ -66,7 +66,7 @@ piece_exact (byte ∷ bytes) = white (is_white byte) refl
         hashed true hash = comment_none (byte ∷ bytes) bytes (run is_inline bytes) (behind_run is_inline bytes) (ap (λ b. b ∷ bytes) (eqb-true byte 35 hash))
             (run_of is_inline bytes (run is_inline bytes) (behind_run is_inline bytes) refl refl)
             (λ text. both_ways (byte == 35 && is_text (run is_inline bytes)) e
-            (both_parts (byte == 35) (is_text (run is_inline bytes)) hash (text_passes (run is_inline bytes) text)))
+            (and_from (byte == 35) (is_text (run is_inline bytes)) hash (text_passes (run is_inline bytes) text)))
         hashed false other = λ rest c. both_ways (byte == 35) other (ap (λ b. b == 35) (heads_same byte 35 bytes (c.text ++ rest) c.split))
 
     white : (t : Bool) → is_white byte ≡ t

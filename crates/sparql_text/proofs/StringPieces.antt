@@ -1,14 +1,13 @@
 -- The pieces of a string: bytes that stand for themselves, and escapes.
 use Rattle.std.proofs.Common.{◌≡◌, inl, inr, ℕ, ◌+◌, ◌<◌, Bool, true, false, ◌&&◌, cond, ◌==◌, List, [], ◌∷◌, ◌++◌, take, drop, refl, sym, ◌∙◌, ap, subst, arith, Option, Some, None}
 use Rattle.std.specs.Prelude.{is_some}
-use Rattle.std.proofs.lemmas.Bool.{both_ways, eqb-true}
+use Rattle.std.proofs.lemmas.Bool.{both_ways, eqb-true, and_parts}
 use Rattle.std.proofs.lemmas.List.{drop-drop}
 use Rattle.std.proofs.Math.Seq.{take-add}
 use Rattle.m3_terms.proofs.Lists.{heads_same, tails_same}
 use Rattle.sparql_text.specs.Tokens.{IsQuote, Unescapes, escape_of, is_string_byte}
 use Rattle.sparql_text.specs.Tokens.Unescapes.{Done, Plain, Escape}
 use Rattle.sparql_text.specs.Cutting.{escapes, piece_len, PassesPieces}
-use Rattle.sparql_text.proofs.ByteRuns.{first_part, second_part}
 
 -- pieces and then others
 pub unescapes_both : (quote : ℕ) (raw value others word : List ℕ) → Unescapes quote raw value → Unescapes quote others word
@@ -26,7 +25,7 @@ piece_word quote (byte ∷ bytes) some = plain (is_string_byte quote byte) refl 
   where
     escape : (t : Bool) → (byte == 92 && escapes bytes) ≡ t → 0 < cond t 2 0 → (word : List ℕ) × Unescapes quote (take (cond t 2 0) (byte ∷ bytes)) word
     escape false e some = absurd (omega arith)
-    escape true e some = behind bytes (eqb-true byte 92 (first_part (byte == 92) (escapes bytes) e)) (second_part (byte == 92) (escapes bytes) e)
+    escape true e some = behind bytes (eqb-true byte 92 (and_parts (byte == 92) (escapes bytes) e).0) (and_parts (byte == 92) (escapes bytes) e).1
       where
         behind : (more : List ℕ) → byte ≡ 92 → escapes more ≡ true → (word : List ℕ) × Unescapes quote (take 2 (byte ∷ more)) word
         behind [] slash e = absurd (cc)

@@ -4,13 +4,13 @@ use Rattle.std.specs.Prelude.{IsTrue, if◌then◌else◌}
 use Rattle.std.specs.List.{list_all}
 use Rattle.std.specs.Char.{to_ascii_lowercase}
 use Rattle.std.proofs.lemmas.List.{length-append}
-use Rattle.std.proofs.lemmas.Bool.{both_ways}
+use Rattle.std.proofs.lemmas.Bool.{both_ways, and_parts, and_from}
 use Rattle.sparql_text.specs.declared.word.Word.{Word}
 use Rattle.sparql_text.specs.declared.word.Word.TheVariants as word
 use Rattle.sparql_text.specs.Tokens.{Token, Iri, Name, Variable, String, Fixed, spelling, folded, is_letter, is_prefix, is_prefix_byte, ends_in_dot}
 use Rattle.sparql_text.specs.Lexing.{Reads, Begins}
 use Rattle.sparql_text.specs.Cutting.{IsLongestWord, NoWord}
-use Rattle.sparql_text.proofs.ByteRuns.{first_part, second_part, both_parts, run_longest}
+use Rattle.sparql_text.proofs.ByteRuns.{run_longest}
 use Rattle.sparql_text.proofs.Words.{reads_begins}
 use Rattle.sparql_text.proofs.TokenReadings.{iri_bytes, iri_once, variable_bytes, name_bytes, string_bytes_of, string_is}
 
@@ -41,7 +41,7 @@ letter_kind byte h = grind arith
 -- the first byte of a prefix is a letter
 pub prefix_first : (byte : ℕ) (prefix : List ℕ) → IsTrue (is_prefix (byte ∷ prefix)) → is_letter byte ≡ true
 prefix_first byte prefix h =
-    first_part (is_letter byte) (list_all is_prefix_byte prefix) (first_part (is_letter byte && list_all is_prefix_byte prefix) (not (ends_in_dot prefix)) h)
+    (and_parts (is_letter byte) (list_all is_prefix_byte prefix) (and_parts (is_letter byte && list_all is_prefix_byte prefix) (not (ends_in_dot prefix)) h).0).0
 
 pub name_kind : (bytes prefix local left : List ℕ) → Reads (Name prefix local) bytes left → kind bytes ≡ 0
 name_kind bytes [] local left reads = ap kind (name_bytes bytes [] local left reads)
@@ -161,16 +161,16 @@ folded_letters word.A bytes h = plain bytes h
     plain : (bytes : List ℕ) → list_all is_letter bytes ≡ true → list_all is_prefix_byte bytes ≡ true
     plain [] h = refl
     plain (byte ∷ bytes) h =
-        both_parts (is_prefix_byte byte) (list_all is_prefix_byte bytes) (letter_prefix byte (first_part (is_letter byte) (list_all is_letter bytes) h))
-        (plain bytes (second_part (is_letter byte) (list_all is_letter bytes) h))
+        and_from (is_prefix_byte byte) (list_all is_prefix_byte bytes) (letter_prefix byte (and_parts (is_letter byte) (list_all is_letter bytes) h).0)
+        (plain bytes (and_parts (is_letter byte) (list_all is_letter bytes) h).1)
 folded_letters other bytes h = lower bytes h
   where
     lower : (bytes : List ℕ) → list_all is_letter (folded word.Select bytes) ≡ true → list_all is_prefix_byte bytes ≡ true
     lower [] h = refl
     lower (byte ∷ bytes) h =
-        both_parts (is_prefix_byte byte) (list_all is_prefix_byte bytes)
-        (letter_prefix byte (letter_back byte (first_part (is_letter (to_ascii_lowercase byte)) (list_all is_letter (folded word.Select bytes)) h)))
-        (lower bytes (second_part (is_letter (to_ascii_lowercase byte)) (list_all is_letter (folded word.Select bytes)) h))
+        and_from (is_prefix_byte byte) (list_all is_prefix_byte bytes)
+        (letter_prefix byte (letter_back byte (and_parts (is_letter (to_ascii_lowercase byte)) (list_all is_letter (folded word.Select bytes)) h).0))
+        (lower bytes (and_parts (is_letter (to_ascii_lowercase byte)) (list_all is_letter (folded word.Select bytes)) h).1)
 
 folded_letter : (word : Word) (byte : ℕ) → is_letter byte ≡ true → is_letter (folded_byte word byte) ≡ true
 folded_letter word.A byte h = h
