@@ -39,11 +39,6 @@ pub is_value : {X : Type 0} (o : Option X) → IsSome o → (x : X) × (o ≡ So
 is_value None some = absurd (cc)
 is_value (Some x) some = (x, refl)
 
--- a solution makes a term of a position that is a variable, so it binds the variable
-pub makes_bound : (s : Solution) (place : Place) (term : Term) (v : Variable) → MakesTerm s place term → IsVariable place v → IsSome (term_at s v)
-makes_bound s (Var var) term v makes is = some_is (term_at s v) term (ap (term_at s) (sym is) ∙ makes)
-makes_bound s (Is own) term v makes is = absurd is
-
 -- what a larger solution makes of a position, the position admits
 made_admits_at : (own : Option Term) (term : Term) → ((x : Term) → own ≡ Some x → x ≡ term) → admits_term own term ≡ true
 made_admits_at None term h = refl

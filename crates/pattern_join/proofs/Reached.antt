@@ -4,7 +4,7 @@ use Rattle.std.proofs.lemmas.Option.{same_Some, none-some}
 use Rattle.std.specs.List.{AllByRecursion}
 use Rattle.std.specs.List.Sorted.{IsStrictlySortedBy}
 use Rattle.std.specs.Option.{IsSome, MatchOption, option_map}
-use Rattle.m3_terms.specs.InsertedLaws.{cons_cases, head_in, tail_in}
+use Rattle.m3_terms.specs.InsertedLaws.{cons_cases}
 use Rattle.m3_terms.specs.TermTable.{NamesOnce}
 use Rattle.m3_terms.specs.declared.term.Term.{Term}
 use Rattle.m3_terms.specs.declared.triple.Triple.{Triple}
@@ -12,10 +12,11 @@ use Rattle.sparql_algebra.specs.declared.mapping.Binding.{Binding}
 use Rattle.sparql_algebra.specs.declared.pattern.PatternTriple.{PatternTriple}
 use Rattle.sparql_algebra.specs.declared.var.Var.{Var as Variable}
 use Rattle.sparql_algebra.specs.Merged.{lookup}
-use Rattle.sparql_algebra.specs.Patterns.{Mentions, MakesTriple, Meets, IsBgpSolution}
+use Rattle.sparql_algebra.specs.Patterns.{Mentions, Meets, IsBgpSolution}
 use Rattle.sparql_algebra.specs.RowSets.{AreExactly}
 use Rattle.sparql_algebra.specs.TermSolutions.{Solution, TermBinding, IsOrdered, term_var, term_at, solution_in}
 use Rattle.sparql_algebra.proofs.Gathered.{more_than}
+use Rattle.sparql_algebra.proofs.ListedPatterns.{IsMentioned, mentioned, triple_bound, mentioned_bound}
 use Rattle.sparql_algebra.proofs.Lookups.{rising_exact, found_var}
 use Rattle.triple_index.specs.GraphLaws.{none_in}
 use Rattle.triple_index.specs.declared.triple.IdTriple.{IdTriple}
@@ -26,39 +27,16 @@ use Rattle.pattern_join.specs.Meaning.{triple_in, graph_in, AreMeant}
 use Rattle.pattern_join.specs.Scan.{extended_by}
 use Rattle.pattern_join.specs.Search.{id_fits, id_extended_by, IsReached, IsOfOrReached}
 use Rattle.pattern_join.proofs.Alike.{IsKnown, Alike, rising_named, triple_alike}
-use Rattle.pattern_join.proofs.Extended.{IsWithin, within_trans, makes_within, makes_bound, some_is, is_value, extended_by_is, made_fits, towards}
+use Rattle.pattern_join.proofs.Extended.{IsWithin, within_trans, makes_within, some_is, is_value, extended_by_is, made_fits, towards}
 use Rattle.pattern_join.proofs.KeptItems.{given_by, given_in}
 use Rattle.pattern_join.proofs.Masks.{fits_of_meaning}
 use Rattle.pattern_join.proofs.Meanings.{Means, meaning_of}
 
--- some pattern has this variable
-abbrev Mentioned : List PatternTriple → Variable → Type 0
-Mentioned patterns var = (pattern : PatternTriple) × Contains patterns pattern × Mentions pattern var
-
--- the first pattern has it, or one behind it
-first_mentions : (pattern : PatternTriple) (rest : List PatternTriple) (v : Variable) → Mentions pattern v → Mentioned (pattern ∷ rest) v
-first_mentions pattern rest v m = (pattern, head_in pattern rest, m)
-
-later_mentions : (pattern : PatternTriple) (rest : List PatternTriple) (v : Variable) → Mentioned rest v → Mentioned (pattern ∷ rest) v
-later_mentions pattern rest v m = (m.0, tail_in pattern rest m.0 m.1, m.2)
-
-mentioned_cases : (pattern : PatternTriple) (rest : List PatternTriple) (v : Variable) → Mentioned (pattern ∷ rest) v → Mentions pattern v ⊎ Mentioned rest v
+-- the first pattern has a variable, or one behind it
+mentioned_cases : (pattern : PatternTriple) (rest : List PatternTriple) (v : Variable) → IsMentioned (pattern ∷ rest) v → Mentions pattern v ⊎ IsMentioned rest v
 mentioned_cases pattern rest v m = elim (cons_cases pattern rest m.0 m.1) [
   | inl same ↦ inl (subst (λ (p : PatternTriple). Mentions p v) (sym same) m.2)
   | inr later ↦ inr (m.0, later, m.2)
-]
-
--- a solution binds each variable of a pattern of which it makes a triple
-mention_bound : (q : Solution) (pattern : PatternTriple) (triple : Triple) (v : Variable) → MakesTriple q pattern triple → Mentions pattern v → IsSome (term_at q v)
-mention_bound q pattern triple v makes (inl is) = makes_bound q pattern.subject triple.subject v makes.subject is
-mention_bound q pattern triple v makes (inr (inl is)) = makes_bound q pattern.predicate triple.predicate v makes.predicate is
-mention_bound q pattern triple v makes (inr (inr is)) = makes_bound q pattern.object triple.object v makes.object is
-
-mentioned_bound : (q : Solution) (graph : List Triple) (patterns : List PatternTriple) (v : Variable) → AllByRecursion (Meets graph q) patterns → Mentioned patterns v → IsSome (term_at q v)
-mentioned_bound q graph [] v all m = absurd (none_in m.0 m.1)
-mentioned_bound q graph (pattern ∷ rest) v all m = elim (mentioned_cases pattern rest v m) [
-  | inl here ↦ mention_bound q pattern all.0.0 v all.0.2 here
-  | inr later ↦ mentioned_bound q graph rest v all.1 later
 ]
 
 -- a larger solution binds what a smaller one binds
@@ -94,7 +72,7 @@ module _ (terms : ℕ → Option Term) (once : NamesOnce terms) (triples : List 
   record IsFrom (patterns : List PatternTriple) (from row : List Binding) : Type 0 where
     known : IsKnown terms row
     within : IsWithin (solution_in terms from) (solution_in terms row)
-    only : (v : Variable) → IsSome (term_at (solution_in terms row) v) → IsSome (term_at (solution_in terms from) v) ⊎ Mentioned patterns v
+    only : (v : Variable) → IsSome (term_at (solution_in terms row) v) → IsSome (term_at (solution_in terms from) v) ⊎ IsMentioned patterns v
     meets : AllByRecursion (Meets (graph_in terms triples) (solution_in terms row)) patterns
 
   from_next : (pattern : PatternTriple) (rest : List PatternTriple) (from row : List Binding) (t : IdTriple) (triple : Triple) → Contains triples t → Means terms t triple
@@ -113,8 +91,8 @@ module _ (terms : ℕ → Option Term) (once : NamesOnce terms) (triples : List 
         known = end.known;
         within = within_trans s mid q ext.within end.within;
         only = λ v some. elim (end.only v some) [
-          | inl there ↦ elim (ext.only v there) [ inl first ↦ inl first | inr here ↦ inr (first_mentions pattern rest v here) ]
-          | inr behind ↦ inr (later_mentions pattern rest v behind)
+          | inl there ↦ elim (ext.only v there) [ inl first ↦ inl first | inr here ↦ inr (mentioned pattern rest v (inl here)) ]
+          | inr behind ↦ inr (mentioned pattern rest v (inr behind))
         ];
         meets = (
           (
@@ -150,7 +128,7 @@ module _ (terms : ℕ → Option Term) (once : NamesOnce terms) (triples : List 
       (end.0, (t, c, fit, subst (λ p. MatchOption p ⊥ (λ z. IsReached terms triples rest z end.0)) (sym is) end.1), end.2)
 
   reaches : (patterns : List PatternTriple) (from : List Binding) (q : Solution) → IsKnown terms from → IsOrdered q → IsWithin (solution_in terms from) q
-      → ((v : Variable) → IsSome (term_at q v) → IsSome (term_at (solution_in terms from) v) ⊎ Mentioned patterns v)
+      → ((v : Variable) → IsSome (term_at q v) → IsSome (term_at (solution_in terms from) v) ⊎ IsMentioned patterns v)
       → AllByRecursion (Meets (graph_in terms triples) q) patterns
       → (row : List Binding) × IsReached terms triples patterns from row × (solution_in terms row ≡ q)
   reaches [] from q known r within only meets = (
@@ -174,10 +152,10 @@ module _ (terms : ℕ → Option Term) (once : NamesOnce terms) (triples : List 
       let alike = subst (Alike terms (id_extended_by pattern t from)) next.1 (triple_alike terms once pattern t triple from m known fits) in
       reaches_next pattern rest from q t triple next.0 found.1 (fits_of_meaning terms from pattern t triple m ∙ fits) (id_extended_by pattern t from) refl alike
       (λ row k e. reaches rest row q k r (subst (λ z. IsWithin z q) (sym e) next.2)
-      (λ v some. subst (λ (z : Solution). IsSome (term_at z v) ⊎ Mentioned rest v) (sym e) (elim (only v some) [
+      (λ v some. subst (λ (z : Solution). IsSome (term_at z v) ⊎ IsMentioned rest v) (sym e) (elim (only v some) [
         | inl there ↦ inl (bound_within s next.0 v ext.within there)
-        | inr mentioned ↦ elim (mentioned_cases pattern rest v mentioned) [
-          | inl here ↦ inl (mention_bound next.0 pattern triple v ext.makes here)
+        | inr among ↦ elim (mentioned_cases pattern rest v among) [
+          | inl here ↦ inl (triple_bound next.0 pattern triple v ext.makes here)
           | inr behind ↦ inr behind
         ]
       ]))
@@ -198,7 +176,7 @@ module _ (terms : ℕ → Option Term) (once : NamesOnce terms) (triples : List 
           ordered = rising_named terms row from.known.rising;
           exactly = λ v. (
             λ some. elim (from.only v some) [ inl there ↦ absurd (let none : IsSome {T = Term} None = there in cc) | inr m ↦ m ],
-            λ m. mentioned_bound q (graph_in terms triples) patterns v from.meets m,
+            λ m. mentioned_bound q (graph_in terms triples) patterns from.meets v m,
           );
           triples = from.meets;
         },

@@ -180,10 +180,11 @@ pattern_covers : (graph : List Triple) (pattern : PatternTriple) → Covers (of_
 pattern_covers graph pattern = spread_covers (of_triple pattern) graph (λ triple s. MakesTriple s pattern triple) (Mentions pattern) (triple_covers pattern)
 
 -- a variable occurs in some of the patterns
-abbrev IsMentioned : List PatternTriple → Variable → Type 0
+abbrev pub IsMentioned : List PatternTriple → Variable → Type 0
 IsMentioned patterns var = (pattern : PatternTriple) × Contains patterns pattern × Mentions pattern var
 
-mentioned : (pattern : PatternTriple) (patterns : List PatternTriple) (var : Variable) → Mentions pattern var ⊎ IsMentioned patterns var → IsMentioned (pattern ∷ patterns) var
+-- the first pattern has it, or one behind it
+pub mentioned : (pattern : PatternTriple) (patterns : List PatternTriple) (var : Variable) → Mentions pattern var ⊎ IsMentioned patterns var → IsMentioned (pattern ∷ patterns) var
 mentioned pattern patterns var (inl m) = (pattern, head_in pattern patterns, m)
 mentioned pattern patterns var (inr m) = (m.0, tail_in pattern patterns m.0 m.1, m.2)
 
@@ -206,13 +207,13 @@ place_bound : (s : Solution) (place : Place) (term : Term) (var : Variable) → 
 place_bound s (Var own) term var makes e = subst (λ v. IsSome (term_at s v)) e (ap is_some makes)
 place_bound s (Is own) term var makes e = absurd e
 
-triple_bound : (s : Solution) (pattern : PatternTriple) (triple : Triple) (var : Variable) → MakesTriple s pattern triple → Mentions pattern var → IsSome (term_at s var)
+pub triple_bound : (s : Solution) (pattern : PatternTriple) (triple : Triple) (var : Variable) → MakesTriple s pattern triple → Mentions pattern var → IsSome (term_at s var)
 triple_bound s pattern triple var makes (inl m) = place_bound s pattern.subject triple.subject var makes.subject m
 triple_bound s pattern triple var makes (inr (inl m)) = place_bound s pattern.predicate triple.predicate var makes.predicate m
 triple_bound s pattern triple var makes (inr (inr m)) = place_bound s pattern.object triple.object var makes.object m
 
 -- what meets some patterns has their variables bound
-mentioned_bound : (s : Solution) (graph : List Triple) (patterns : List PatternTriple) → AllByRecursion (Meets graph s) patterns → (var : Variable)
+pub mentioned_bound : (s : Solution) (graph : List Triple) (patterns : List PatternTriple) → AllByRecursion (Meets graph s) patterns → (var : Variable)
     → IsMentioned patterns var → IsSome (term_at s var)
 mentioned_bound s graph patterns all var m =
     let meets = in_all_of (Meets graph s) patterns m.0 all m.1 in triple_bound s m.0 meets.0 var meets.2 m.2
