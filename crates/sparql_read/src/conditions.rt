@@ -10,11 +10,10 @@ use crate::draft::{Call, Condition, Latest, Level};
 use crate::levels::{
     blank_level, either_at, with_and, with_operand, with_or, with_sign, with_whole,
 };
-use crate::nested::Nested;
 use crate::terms::{Names, argument_of, only_memory};
 use m3_terms::NoMemory;
 use sparql_algebra::{Compare, Expr, Operand};
-use sparql_text::{Lexeme, Word};
+use sparql_text::{Lexeme, Nested, Word};
 use sqlite_items::Boxed;
 use std::alloc::Global;
 use std::mem;

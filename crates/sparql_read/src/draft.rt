@@ -1,6 +1,6 @@
 //! A query as far as its tokens were read.
-use crate::nested::Nested;
 use sparql_algebra::{Algebra, Compare, Expr, Operand, PatternList, Place, VarList};
+use sparql_text::Nested;
 
 /// A test that is written as a call.
 #[derive(Clone, Copy)]

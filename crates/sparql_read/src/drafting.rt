@@ -14,12 +14,11 @@ use crate::conditions::{blank_condition, in_condition, take_whole};
 use crate::draft::{Condition, Draft, Role, Said};
 use crate::groups::{around, blank_group, close_into, settle};
 use crate::levels::and_of;
-use crate::nested::Nested;
 use crate::terms::{Names, only_memory, variable_at};
 use crate::triples::{object_of, subject_of, triple_of, verb_of};
 use m3_terms::NoMemory;
 use sparql_algebra::{Expr, PatternTriple, Place, Query, Var, VarList};
-use sparql_text::{Lexeme, Word};
+use sparql_text::{Lexeme, Nested, Word};
 use std::alloc::Global;
 use std::mem;
 

@@ -8,7 +8,6 @@ mod drafting;
 mod groups;
 mod laws;
 mod levels;
-mod nested;
 mod reading;
 mod strings;
 mod terms;

@@ -10,6 +10,7 @@ mod judging;
 mod laws;
 mod lexeme;
 mod names;
+mod nested;
 mod next;
 mod past;
 mod prefixes;
@@ -31,6 +32,7 @@ pub use laws::{
 };
 pub use lexeme::Lexeme;
 pub use names::add_name;
+pub use nested::Nested;
 pub use next::{Next, next_token};
 pub use prefixes::{Declared, declared_iri};
 pub use symbol::{Kind, Symbol};

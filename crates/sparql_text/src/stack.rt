@@ -1,9 +1,9 @@
-ghost use Rattle.std.specs.Prelude.{◌≡◌, ◌∷◌, ◌++◌, [], IsTrue, ◌↔◌, Some, None, OnOk, IfOk, MatchOption};
+ghost use Rattle.std.specs.Prelude.{◌≡◌, ◌∷◌, ◌++◌, [], IsTrue, ◌↔◌, Some, None, OnOk, IfOk};
 ghost use Rattle.sparql_text.specs.Machine.{take_one};
 ghost use Rattle.sparql_text.specs.Stepping.{Takes};
 
 use crate::step::step;
-use crate::{Kind, Symbol};
+use crate::{Kind, Nested, Symbol};
 use m3_terms::NoMemory;
 use std::alloc::Global;
 use std::marker::Model;
@@ -11,16 +11,16 @@ use std::marker::Model;
 /// What is still to come of a query. Contracts see the symbols as a list, the first to come first.
 #[derive(Drop)]
 pub(crate) struct Stack {
-    symbols: Vec<Symbol>,
+    symbols: Nested<Symbol>,
 }
 
 impl Model for Stack {
-    ghost use Rattle.std.specs.Prelude.{List, reverse};
+    ghost use Rattle.std.specs.Prelude.{List};
     ghost use Rattle.sparql_text.specs.declared.symbol.Symbol.{Symbol};
 
     ghost Value = { List Symbol };
 
-    ghost view = { λ s. reverse s.symbols.items };
+    ghost view = { λ s. s.symbols };
 }
 
 impl Stack {
@@ -28,7 +28,7 @@ impl Stack {
     pub fn query(alloc: Global) -> Result<Stack, NoMemory>
         ensures { IfOk result (λ stack. stack ≡ Symbol.Start ∷ []) }
     {
-        let mut symbols = Vec::new(alloc);
+        let mut symbols = Nested::new(alloc);
         symbols.push(Symbol::Start)?;
         Ok(Stack { symbols })
     }
@@ -38,13 +38,6 @@ impl Stack {
         ensures { IsTrue result ↔ (self.now ≡ []) }
     {
         self.symbols.is_empty()
-    }
-
-    /// Takes the symbol that comes first.
-    fn pop(&mut self) -> Option<Symbol>
-        ensures { MatchOption result (self.old ≡ []) (λ symbol. self.old ≡ symbol ∷ self.new) }
-    {
-        self.symbols.pop()
     }
 
     /// Puts symbols before those that are to come.
@@ -64,7 +57,7 @@ impl Stack {
     pub fn take(&mut self, kind: Kind) -> Result<bool, NoMemory>
         ensures { IfOk result (Takes self.old kind self.new) }
     {
-        let Some(symbol) = self.pop() else {
+        let Some(symbol) = self.symbols.pop() else {
             return Ok(false);
         };
         match step(symbol, kind) {

@@ -1,13 +1,13 @@
-//! Things that are open inside others.
+//! Things that stand inside others.
 ghost use Rattle.std.specs.Prelude.{◌≡◌, [], ◌∷◌, OnOk, IsTrue, ◌↔◌, MatchOption};
 
 use m3_terms::NoMemory;
 use std::alloc::Global;
 use std::marker::Model;
 
-/// Things each of which is open inside the next. Contracts see them as a list, the innermost first.
+/// Things each of which stands inside the next. Contracts see them as a list, the innermost first.
 #[derive(Drop)]
-pub(crate) struct Nested<T> {
+pub struct Nested<T> {
     items: Vec<T>,
 }
 
@@ -20,7 +20,7 @@ impl<T> Model for Nested<T> {
 }
 
 impl<T> Nested<T> {
-    /// Nothing is open. It takes no memory.
+    /// Nothing. It takes no memory.
     pub fn new(alloc: Global) -> Nested<T>
         ensures { result ≡ [] }
     {
@@ -29,14 +29,14 @@ impl<T> Nested<T> {
         }
     }
 
-    /// Whether nothing is open.
+    /// Whether there is nothing.
     pub fn is_empty(&self) -> bool
         ensures { IsTrue result ↔ (self.now ≡ []) }
     {
         self.items.is_empty()
     }
 
-    /// Closes the innermost.
+    /// Takes out the innermost.
     pub fn pop(&mut self) -> Option<T>
         ensures { MatchOption result ((self.old ≡ []) × (self.new ≡ [])) (λ item. self.old ≡ item ∷ self.new) }
     {
@@ -45,7 +45,7 @@ impl<T> Nested<T> {
 }
 
 impl<T: Drop> Nested<T> {
-    /// Opens one inside the others.
+    /// Puts one inside the others.
     pub fn push(&mut self, item: T) -> Result<(), NoMemory>
         ensures { OnOk result (self.new ≡ item ∷ self.old) }
     {
