@@ -255,10 +255,9 @@ pub(crate) fn in_condition(
 {
     match lexeme {
         Lexeme::Fixed(word) => with_word(alloc, condition, word),
-        Lexeme::Iri(_) => with_token_of(alloc, names, condition, lexeme),
-        Lexeme::Name { .. } => with_token_of(alloc, names, condition, lexeme),
-        Lexeme::Variable(_) => with_token_of(alloc, names, condition, lexeme),
-        Lexeme::String(_) => with_token_of(alloc, names, condition, lexeme),
+        Lexeme::Iri(_) | Lexeme::Name { .. } | Lexeme::Variable(_) | Lexeme::String(_) => {
+            with_token_of(alloc, names, condition, lexeme)
+        }
     }
 }
 

@@ -14,8 +14,8 @@ use crate::conditions::{blank_condition, in_condition, take_whole};
 use crate::draft::{Condition, Draft, Role, Said};
 use crate::groups::{around, blank_group, close_into, settle};
 use crate::levels::and_of;
-use crate::terms::{Names, only_memory, variable_at};
-use crate::triples::{object_of, subject_of, triple_of, verb_of};
+use crate::terms::{Names, only_memory, place_of_token, variable_at};
+use crate::triples::{subject_of, triple_of, verb_of};
 use m3_terms::NoMemory;
 use sparql_algebra::{Expr, PatternTriple, Place, Query, Var, VarList};
 use sparql_text::{Lexeme, Nested, Word};
@@ -131,7 +131,7 @@ fn with_part(
             Ok(())
         }
         Said::Verb(_, _) => {
-            let object = only_memory(object_of(alloc, names, lexeme))?;
+            let object = only_memory(place_of_token(alloc, names, lexeme))?;
             with_object(alloc, draft, object)
         }
     }
@@ -257,10 +257,9 @@ fn in_group(
 {
     match lexeme {
         Lexeme::Fixed(word) => with_element(alloc, names, draft, word),
-        Lexeme::Iri(_) => with_value_token(alloc, names, draft, lexeme),
-        Lexeme::Name { .. } => with_value_token(alloc, names, draft, lexeme),
-        Lexeme::Variable(_) => with_value_token(alloc, names, draft, lexeme),
-        Lexeme::String(_) => with_value_token(alloc, names, draft, lexeme),
+        Lexeme::Iri(_) | Lexeme::Name { .. } | Lexeme::Variable(_) | Lexeme::String(_) => {
+            with_value_token(alloc, names, draft, lexeme)
+        }
     }
 }
 

@@ -4,13 +4,13 @@ ghost use Rattle.std.specs.List.{position_or_len};
 ghost use Rattle.m3_terms.specs.Order.{text_eq};
 ghost use Rattle.m3_terms.specs.Term.{UriFault, LiteralFault};
 ghost use Rattle.m3_terms.specs.declared.term.Term.TheVariants.{Uri, Literal};
-ghost use Rattle.sparql_text.specs.Scope.{variable_of, full_iri, as_variable, as_argument};
+ghost use Rattle.sparql_text.specs.Scope.{variable_of, full_iri, as_variable, as_object, as_argument};
 ghost use Rattle.sparql_text.specs.Values.{unescaped, token_of};
 ghost use Rattle.sparql_read.specs.Scoped.{scope_in};
 
 use crate::strings::unescaped;
 use m3_terms::{NoMemory, Term, TermFault};
-use sparql_algebra::{Operand, Var};
+use sparql_algebra::{Operand, Place, Var};
 use sparql_text::{Declared, Lexeme, declared_iri};
 use std::alloc::Global;
 
@@ -90,6 +90,26 @@ pub(crate) fn only_memory<T: Drop>(made: Result<T, TermFault>) -> Result<T, NoMe
     }
 }
 
+/// The variable or the term that a token stands for, or `None` where it is a word.
+pub(crate) fn place_of_token(
+    alloc: Global,
+    names: Names<'_>,
+    lexeme: Lexeme<'_>,
+) -> Result<Option<Place>, TermFault>
+    requires { length names.variables.now ≤ 16 }
+    ensures { IfOk result (λ found. found ≡ as_object (scope_in names.entry) (token_of lexeme.entry)) }
+{
+    match lexeme {
+        Lexeme::Iri(iri) => Ok(Some(Place::Is(Term::uri(alloc, iri)?))),
+        Lexeme::Name { prefix, local } => {
+            Ok(Some(Place::Is(name_term(alloc, names, prefix, local)?)))
+        }
+        Lexeme::Variable(name) => Ok(Some(Place::Var(variable_of(names, name)))),
+        Lexeme::String(raw) => Ok(Some(Place::Is(string_term(alloc, raw)?))),
+        Lexeme::Fixed(_) => Ok(None),
+    }
+}
+
 /// The operand that a token stands for, or `None` where it is a word.
 pub(crate) fn argument_of(
     alloc: Global,
@@ -99,14 +119,10 @@ pub(crate) fn argument_of(
     requires { length names.variables.now ≤ 16 }
     ensures { IfOk result (λ operand. operand ≡ as_argument (scope_in names.entry) (token_of lexeme.entry)) }
 {
-    match lexeme {
-        Lexeme::Iri(iri) => Ok(Some(Operand::Is(Term::uri(alloc, iri)?))),
-        Lexeme::Name { prefix, local } => {
-            Ok(Some(Operand::Is(name_term(alloc, names, prefix, local)?)))
-        }
-        Lexeme::Variable(name) => Ok(Some(Operand::Var(variable_of(names, name)))),
-        Lexeme::String(raw) => Ok(Some(Operand::Is(string_term(alloc, raw)?))),
-        Lexeme::Fixed(_) => Ok(None),
+    match place_of_token(alloc, names, lexeme)? {
+        Some(Place::Var(var)) => Ok(Some(Operand::Var(var))),
+        Some(Place::Is(term)) => Ok(Some(Operand::Is(term))),
+        None => Ok(None),
     }
 }
 
@@ -117,9 +133,6 @@ pub(crate) fn variable_at(names: Names<'_>, lexeme: Lexeme<'_>) -> Option<Var>
 {
     match lexeme {
         Lexeme::Variable(name) => Some(variable_of(names, name)),
-        Lexeme::Iri(_) => None,
-        Lexeme::Name { .. } => None,
-        Lexeme::String(_) => None,
-        Lexeme::Fixed(_) => None,
+        Lexeme::Iri(_) | Lexeme::Name { .. } | Lexeme::String(_) | Lexeme::Fixed(_) => None,
     }
 }

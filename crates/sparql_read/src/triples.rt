@@ -2,12 +2,12 @@
 ghost use Rattle.std.specs.Prelude.{◌≡◌, ◌≤◌, length, [], IfOk};
 ghost use Rattle.sparql_algebra.specs.declared.pattern.Place.TheVariants as place;
 ghost use Rattle.m3_terms.specs.declared.term.Term.TheVariants.{Uri};
-ghost use Rattle.sparql_text.specs.Scope.{as_subject, as_verb, as_object, type_iri};
+ghost use Rattle.sparql_text.specs.Scope.{as_subject, as_verb, type_iri};
 ghost use Rattle.sparql_text.specs.Tokens.{Fixed};
 ghost use Rattle.sparql_text.specs.Values.{token_of};
 ghost use Rattle.sparql_read.specs.Scoped.{scope_in};
 
-use crate::terms::{Names, name_term, string_term, variable_of};
+use crate::terms::{Names, place_of_token};
 use m3_terms::{NoMemory, Term, TermFault};
 use sparql_algebra::{PatternTriple, Place};
 use sparql_text::{Lexeme, Word};
@@ -23,13 +23,10 @@ pub(crate) fn subject_of(
     ensures { IfOk result (λ subject. subject ≡ as_subject (scope_in names.entry) (token_of lexeme.entry)) }
 {
     match lexeme {
-        Lexeme::Iri(iri) => Ok(Some(Place::Is(Term::uri(alloc, iri)?))),
-        Lexeme::Name { prefix, local } => {
-            Ok(Some(Place::Is(name_term(alloc, names, prefix, local)?)))
-        }
-        Lexeme::Variable(name) => Ok(Some(Place::Var(variable_of(names, name)))),
         Lexeme::String(_) => Ok(None),
-        Lexeme::Fixed(_) => Ok(None),
+        Lexeme::Iri(_) | Lexeme::Name { .. } | Lexeme::Variable(_) | Lexeme::Fixed(_) => {
+            place_of_token(alloc, names, lexeme)
+        }
     }
 }
 
@@ -63,28 +60,9 @@ pub(crate) fn verb_of(
 {
     match lexeme {
         Lexeme::Fixed(word) => verb_of_word(alloc, word),
-        Lexeme::Iri(_) => subject_of(alloc, names, lexeme),
-        Lexeme::Name { .. } => subject_of(alloc, names, lexeme),
-        Lexeme::Variable(_) => subject_of(alloc, names, lexeme),
-        Lexeme::String(_) => subject_of(alloc, names, lexeme),
-    }
-}
-
-/// The object that a token stands for, or `None` where it can be none.
-pub(crate) fn object_of(
-    alloc: Global,
-    names: Names<'_>,
-    lexeme: Lexeme<'_>,
-) -> Result<Option<Place>, TermFault>
-    requires { length names.variables.now ≤ 16 }
-    ensures { IfOk result (λ object. object ≡ as_object (scope_in names.entry) (token_of lexeme.entry)) }
-{
-    match lexeme {
-        Lexeme::String(raw) => Ok(Some(Place::Is(string_term(alloc, raw)?))),
-        Lexeme::Fixed(_) => subject_of(alloc, names, lexeme),
-        Lexeme::Iri(_) => subject_of(alloc, names, lexeme),
-        Lexeme::Name { .. } => subject_of(alloc, names, lexeme),
-        Lexeme::Variable(_) => subject_of(alloc, names, lexeme),
+        Lexeme::Iri(_) | Lexeme::Name { .. } | Lexeme::Variable(_) | Lexeme::String(_) => {
+            subject_of(alloc, names, lexeme)
+        }
     }
 }
 
