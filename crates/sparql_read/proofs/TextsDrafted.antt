@@ -3,10 +3,9 @@ use Rattle.std.proofs.Common.{◌≡◌, ℕ, ◌≤◌, true, List, [], ◌∷�
 use Rattle.std.specs.Borrow.{Bor}
 use Rattle.sparql_algebra.specs.declared.algebra.Query.{Query}
 use Rattle.sparql_text.specs.declared.lexeme.Lexeme.{Lexeme}
-use Rattle.sparql_text.specs.declared.lexeme.Lexeme.TheVariants as lexeme
 use Rattle.sparql_text.specs.declared.next.Next.TheVariants as next
-use Rattle.sparql_text.specs.Tokens.{Token, String}
-use Rattle.sparql_text.specs.Cutting.{StandsFor, IsNext}
+use Rattle.sparql_text.specs.Tokens.{Token}
+use Rattle.sparql_text.specs.Cutting.{IsNext}
 use Rattle.sparql_text.specs.Lexing.{Gap, Placed, AreTokens}
 use Rattle.sparql_text.specs.Lexing.Lexes.{NoToken}
 use Rattle.sparql_text.specs.Lexed.{Ended, Stopped}
