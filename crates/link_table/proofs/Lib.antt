@@ -1,4 +1,5 @@
 pub mod Pending
+pub mod RisingPairs
 pub mod SlotLemmas
 pub mod LinkLemmas
 pub mod TableLemmas

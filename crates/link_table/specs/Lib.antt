@@ -1,3 +1,4 @@
 pub mod Links
 pub mod Limits
+pub mod Index
 pub mod Table
