@@ -1,5 +1,6 @@
 pub mod Pending
 pub mod RisingPairs
 pub mod SlotLemmas
+pub mod SwitchedIndex
 pub mod LinkLemmas
 pub mod TableLemmas

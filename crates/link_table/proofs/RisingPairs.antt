@@ -111,7 +111,15 @@ pub key_of-without : (pairs : List (ℕ × ℕ)) (number other : ℕ) → key_of
 key_of-without [] number other = elim (eqb other number) as (λ same. ◌≡◌ {A = Option ℕ} None (if same then None else None)) [ true ↦ refl | false ↦ refl ]
 key_of-without (pair ∷ pairs) number other = grind (arith, nat_tests, key_of-without pairs number other)
 
--- a number at the end has its key where it was not there, and the others keep theirs
+-- a number at the end has its key, where it was not there
+pub key_of-pushed : (pairs : List (ℕ × ℕ)) (number key : ℕ) → key_of pairs number ≡ None → key_of (pairs ++ (number, key) ∷ []) number ≡ Some key
+key_of-pushed [] number key absent = rw (eq-eqb number number refl) refl
+key_of-pushed (pair ∷ pairs) number key absent = elim (cases_eq pair.0 number) [
+  | inl same ↦ absurd (cc (rw (eq-eqb pair.0 number same) at absent))
+  | inr differs ↦ let test = ne_eqb pair.0 number differs in rw test (key_of-pushed pairs number key (rw test at absent))
+]
+
+-- and the others keep theirs
 pub key_of-push : (pairs : List (ℕ × ℕ)) (number key other : ℕ) → other ≢ number → key_of (pairs ++ (number, key) ∷ []) other ≡ key_of pairs other
 key_of-push [] number key other differs = grind (arith, nat_tests)
 key_of-push (pair ∷ pairs) number key other differs = grind (arith, nat_tests, key_of-push pairs number key other differs)

@@ -5,7 +5,7 @@ use Rattle.std.proofs.lemmas.Grind.{common_steps}
 use Rattle.std.specs.List.{find}
 use Rattle.slab.specs.Slab.{Slab, get, entries, Updates}
 use Rattle.slab.proofs.SlabLemmas.{Contains-entries, Contains-cons, Contains-cons_cases}
-use Rattle.link_table.specs.Table.{has_number, slot_of, link_or_gone, link_in, IsDistinct}
+use Rattle.link_table.specs.Table.{has_number, slot_of, entry_in, IsDistinct}
 use Rattle.link_table.specs.declared.entry.Entry.{Entry}
 
 -- a value is there, or it isn't
@@ -52,6 +52,19 @@ slot_of-none slots number key entry none there has =
     let fails = find-none (has_number number) (entries slots) (key, entry) none ((Contains-entries slots key entry).1 there) in
     absurd (cc (eq-eqb entry.number number has, fails))
 
+-- a number whose entry was found has a slot, and one that has no entry has none
+pub slot_of-entry : (slots : List (Option Entry)) (number : ℕ) (entry : Entry) → entry_in slots number ≡ Some entry → (key : ℕ) × (slot_of slots number ≡ Some (key, entry))
+slot_of-entry slots number entry found = elim (slot_cases (slot_of slots number)) [
+  | inl none ↦ absurd (cc (ap (option_map (λ (slot : ℕ × Entry). slot.1)) none))
+  | inr slot ↦ let same : slot.1 ≡ entry = cc (ap (option_map (λ (s : ℕ × Entry). s.1)) slot.2) in (slot.0, slot.2 ∙ ap (λ e. Some (slot.0, e)) same)
+]
+
+pub slot_of-no_entry : (slots : List (Option Entry)) (number : ℕ) → entry_in slots number ≡ None → slot_of slots number ≡ None
+slot_of-no_entry slots number missing = elim (slot_cases (slot_of slots number)) [
+  | inl none ↦ none
+  | inr slot ↦ absurd (cc (ap (option_map (λ (s : ℕ × Entry). s.1)) slot.2))
+]
+
 -- where numbers are distinct, the slot with a number is found
 pub slot_of-there : (slots : Slab Entry) (number key : ℕ) (entry : Entry) → IsDistinct slots → get slots key ≡ Some entry → entry.number ≡ number → slot_of slots.slots number ≡ Some (key, entry)
 slot_of-there slots number key entry distinct there has =
@@ -94,12 +107,12 @@ module _ (old new : Slab Entry) (key number : ℕ) (slot : Option Entry) (switch
         ]
       ]
 
-  -- the links of other numbers stay
-  pub Switches-others : IsDistinct old → (other : ℕ) → other ≢ number → link_in new.slots other ≡ link_in old.slots other
+  -- the slots of other numbers stay
+  pub Switches-others : IsDistinct old → (other : ℕ) → other ≢ number → slot_of new.slots other ≡ slot_of old.slots other
   Switches-others distinct other differs =
       elim (slot_cases (slot_of old.slots other)) [
         | inl none ↦ elim (slot_cases (slot_of new.slots other)) [
-          | inl also ↦ ap link_or_gone (also ∙ sym none)
+          | inl also ↦ also ∙ sym none
           | inr found ↦
               let is = slot_of-found new other found.0 found.1 found.2 in
               elim (new_slot found.0 found.1 is.0) [
@@ -111,15 +124,15 @@ module _ (old new : Slab Entry) (key number : ℕ) (slot : Option Entry) (switch
             let is = slot_of-found old other was.0 was.1 was.2 in
             let apart : was.0 ≢ key = λ same. differs (sym is.1 ∙ switches.before was.1 (ap (get old) (sym same) ∙ is.0)) in
             let stays = switches.updates.others was.0 apart ∙ is.0 in
-            ap link_or_gone (slot_of-there new other was.0 was.1 (Switches-distinct distinct) stays is.1 ∙ sym was.2)
+            slot_of-there new other was.0 was.1 (Switches-distinct distinct) stays is.1 ∙ sym was.2
       ]
 
-  -- the link of the number is the one in its slot
-  pub Switches-here : IsDistinct old → link_in new.slots number ≡ link_or_gone (option_map (λ (entry : Entry). (key, entry)) slot)
+  -- the slot of the number is the one that it took
+  pub Switches-here : IsDistinct old → slot_of new.slots number ≡ option_map (λ (entry : Entry). (key, entry)) slot
   Switches-here distinct =
       elim (option_cases slot) [
         | inl none ↦ elim (slot_cases (slot_of new.slots number)) [
-          | inl also ↦ cc (ap (λ (s : Option Entry). link_or_gone (option_map (λ (entry : Entry). (key, entry)) s)) none, ap link_or_gone also)
+          | inl also ↦ also ∙ ap (option_map (λ (entry : Entry). (key, entry))) (sym none)
           | inr found ↦
               let is = slot_of-found new number found.0 found.1 found.2 in
               elim (new_slot found.0 found.1 is.0) [
@@ -129,6 +142,6 @@ module _ (old new : Slab Entry) (key number : ℕ) (slot : Option Entry) (switch
         ]
         | inr entry ↦
             let there = switches.updates.changed ∙ entry.1 in
-            let found = slot_of-there new number key entry.0 (Switches-distinct distinct) there (switches.after entry.0 entry.1) in
-            ap link_or_gone found ∙ sym (ap (λ (s : Option Entry). link_or_gone (option_map (λ (entry : Entry). (key, entry)) s)) entry.1)
+            slot_of-there new number key entry.0 (Switches-distinct distinct) there (switches.after entry.0 entry.1)
+            ∙ ap (option_map (λ (entry : Entry). (key, entry))) (sym entry.1)
       ]

@@ -1,15 +1,20 @@
 -- The table after one link changed or opened.
 use Rattle.std.proofs.Common.{◌≡◌, ℕ, suc, ◌+◌, ◌-◌, ◌^◌, ◌<◌, Bool, true, false, List, [], ◌∷◌, ◌++◌, length, get_or, set, drop, Option, Some, None, cond, refl, sym, ap, subst, slice_index_or, add-one, ◌∙◌, inl, inr, arith, if◌then◌else◌}
-use Rattle.std.proofs.lemmas.Bool.{cases_eq, cases_Bool}
+use Rattle.std.specs.List.{All}
+use Rattle.std.proofs.lemmas.Bool.{cases_eq, cases_lt, cases_Bool, true≢false}
+use Rattle.std.proofs.lemmas.List.{get_or_default}
+use Rattle.link_table.specs.Index.{key_of}
 use Rattle.std.proofs.lemmas.Grind.{common_steps}
 use Rattle.std.proofs.lemmas.List.Sums.{sum_by-set, sum_by_push}
 use Rattle.slab.specs.Slab.{Slab, get, slab_len, Updates, HasRoomFor}
 use Rattle.link_table.specs.Links.{Link, is_counted, counted, changed, link_at, is_open, closed_link, with_message, fits, new_link, sent, ended, lost, taken, IsLink, AreLinks}
-use Rattle.link_table.specs.Table.{link_of, gone_link, slot_of, link_or_gone, link_in, links_to, IsEntry, IsListed, IsTable, slot_left, slots_of, Removes, PutsBack}
+use Rattle.link_table.specs.Table.{link_of, gone_link, slot_of, link_or_gone, link_in, links_to, IsEntry, IsListed, IsTable, IsIndex, entry_in, slot_left, index_left, slots_of, Removes, PutsBack}
 use Rattle.link_table.specs.declared.entry.Entry.{Entry}
 use Rattle.link_table.specs.declared.state.LinkState.{LinkState}
 use Rattle.link_table.specs.declared.state.LinkState.TheVariants.{Ended, Overrun}
-use Rattle.link_table.proofs.SlotLemmas.{slot_of-found, slot_of-there, Switches, Switches-distinct, Switches-others, Switches-here}
+use Rattle.link_table.proofs.RisingPairs.{key_of-there}
+use Rattle.link_table.proofs.SlotLemmas.{slot_cases, slot_of-found, slot_of-there, slot_of-entry, Switches, Switches-distinct, Switches-others, Switches-here}
+use Rattle.link_table.proofs.SwitchedIndex.{key_or_none, IsIndex-kept, IsIndex-gone, IsIndex-more}
 use Rattle.link_table.proofs.LinkLemmas.{length-links_to, get_or-links_to, links_to-changed, links_to-same, changed-given, number_cases, link_at-given, link_at-never}
 
 -- a link, or the gone link where it does not count
@@ -83,6 +88,11 @@ link_at-found slots opened number key entry table found =
     let is = slot_of-found slots number key entry found in
     let listed = table.listed key entry is.0 in
     link_at-given slots.slots opened number (omega (arith, listed, is.1)) (omega (arith, listed, is.1)) ∙ ap (λ (slot : Option (ℕ × Entry)). Some (link_or_gone slot)) found
+
+pub link_at-entry : (slots : Slab Entry) (opened number : ℕ) (entry : Entry) → IsTable slots opened → entry_in slots.slots number ≡ Some entry → link_at (links_to slots.slots opened) number ≡ Some (link_of entry)
+link_at-entry slots opened number entry table found =
+    let slot = slot_of-entry slots.slots number entry found in
+    link_at-found slots opened number slot.0 entry table slot.1
 
 -- a number that was given is that of the link in its slot, or of one that is gone
 link_at-in : (slots : Slab Entry) (opened number : ℕ) (link : Link) → link_at (links_to slots.slots opened) number ≡ Some link → link_in slots.slots number ≡ link
@@ -159,7 +169,7 @@ module _ (old new : Slab Entry) (opened number key : ℕ) (before after : Entry)
 
   -- the link of the number is what is left of it
   link_left : link_in new.slots before.number ≡ settled (link_of after)
-  link_left = Switches-here old new key before.number (slot_left after) switches replaces.table.distinct ∙ elim (cases_Bool (is_counted (link_of after))) [
+  link_left = ap link_or_gone (Switches-here old new key before.number (slot_left after) switches replaces.table.distinct) ∙ elim (cases_Bool (is_counted (link_of after))) [
     | inl counts ↦ rw counts refl
     | inr not ↦ rw not refl
   ]
@@ -169,7 +179,7 @@ module _ (old new : Slab Entry) (opened number key : ℕ) (before after : Entry)
 
   links_left : links_to new.slots opened ≡ set (links_to old.slots opened) (before.number - 1) (settled (link_of after))
   links_left =
-      links_to-changed old.slots new.slots opened before.number listed.from_one listed.given (Switches-others old new key before.number (slot_left after) switches replaces.table.distinct)
+      links_to-changed old.slots new.slots opened before.number listed.from_one listed.given (λ other differs. ap link_or_gone (Switches-others old new key before.number (slot_left after) switches replaces.table.distinct other differs))
       ∙ ap (set (links_to old.slots opened) (before.number - 1)) link_left
 
   -- the list of all links, where the entry changed in this way
@@ -205,7 +215,7 @@ module _ (old new : Slab Entry) (opened number key : ℕ) (before after : Entry)
     | inr differs ↦ replaces.table.listed other entry (sym (replaces.updates.others other differs) ∙ there)
   ]
 
-  pub Replaces-table : IsTable new opened
+  Replaces-table : IsTable new opened
   Replaces-table = record {
     listed = listed_left;
     distinct = Switches-distinct old new key before.number (slot_left after) switches replaces.table.distinct;
@@ -216,6 +226,16 @@ module _ (old new : Slab Entry) (opened number key : ℕ) (before after : Entry)
     ];
     numbered = replaces.table.numbered;
   }
+
+  replaced_index : (index : List (ℕ × ℕ)) → IsIndex old.slots index → IsIndex new.slots (index_left after index)
+  replaced_index index is = elim (cases_Bool (is_counted (link_of after))) [
+    | inl counts ↦ rw counts (IsIndex-kept old new key before.number (slot_left after) index switches replaces.table.distinct is before after replaces.there (rw counts refl))
+    | inr not ↦ rw (not, replaces.same) (IsIndex-gone old new key before.number (slot_left after) index switches replaces.table.distinct is (rw not refl))
+  ]
+
+  -- the table and its index, from which the number went where the link counts no more
+  pub Replaces-indexed : (index left : List (ℕ × ℕ)) → IsIndex old.slots index → left ≡ index_left after index → IsTable new opened × IsIndex new.slots left
+  Replaces-indexed index left is same = (Replaces-table, subst (IsIndex new.slots) (sym same) (replaced_index index is))
 
 -- what the table says reads the slots alone
 pub IsTable-slots : (old new : Slab Entry) (opened : ℕ) → new.slots ≡ old.slots → IsTable old opened → IsTable new opened
@@ -228,6 +248,32 @@ IsTable-slots old new opened same table =
       in_limit = rw same table.in_limit;
       numbered = table.numbered;
     }
+
+-- and so does what the index says
+pub Keeps-indexed : (old new : Slab Entry) (opened : ℕ) (index left : List (ℕ × ℕ)) → new.slots ≡ old.slots → left ≡ index → IsTable old opened × IsIndex old.slots index → IsTable new opened × IsIndex new.slots left
+Keeps-indexed old new opened index left same stays are =
+    (IsTable-slots old new opened same are.0, subst (IsIndex new.slots) (sym stays) (subst (λ (slots : List (Option Entry)). IsIndex slots index) (sym same) are.1))
+
+-- a number above those that were given has no slot
+pub slot_of-unopened : (slots : Slab Entry) (opened number : ℕ) → IsTable slots opened → opened < number → slot_of slots.slots number ≡ None
+slot_of-unopened slots opened number table above = elim (slot_cases (slot_of slots.slots number)) [
+  | inl none ↦ none
+  | inr found ↦
+      let is = slot_of-found slots number found.0 found.1 found.2 in
+      absurd (omega (arith, is.1, table.listed found.0 found.1 is.0))
+]
+
+-- each number of the index was given
+pub numbers_given : (slots : Slab Entry) (opened : ℕ) (index : List (ℕ × ℕ)) → IsTable slots opened → IsIndex slots.slots index → All (λ pair. pair.0 < opened + 1) index
+numbers_given slots opened index table is place other within =
+    let number = (get_or index place (0, 0)).0 in
+    let same = ap (λ (pair : ℕ × ℕ). pair.0) (get_or_default index place other (0, 0) within) in
+    elim (cases_lt number (opened + 1)) [
+      | inl below ↦ omega (arith, same, below)
+      | inr above ↦
+          let none : key_of index number ≡ None = is.keys number ∙ ap key_or_none (slot_of-unopened slots opened number table (omega (arith, above))) in
+          absurd (true≢false (sym (rw none at (key_of-there index place within))))
+    ]
 
 -- a link opened: its entry was put into an empty slot, under the next number
 pub record Adds (old new : Slab Entry) (opened key : ℕ) (entry : Entry) : Type 0 where
@@ -254,8 +300,11 @@ module _ (old new : Slab Entry) (opened key : ℕ) (entry : Entry) (adds : Adds 
   Adds-links =
       let others = Switches-others old new key (suc opened) (Some entry) adds_switches adds.table.distinct in
       let here = Switches-here old new key (suc opened) (Some entry) adds_switches adds.table.distinct in
-      let front = links_to-same old.slots new.slots opened (λ number within. others number (λ same. omega arith)) in
+      let front = links_to-same old.slots new.slots opened (λ number within. ap link_or_gone (others number (λ same. omega arith))) in
       rw (add-one, front, here, adds.link) refl
+
+  adds_index : (index : List (ℕ × ℕ)) → IsIndex old.slots index → IsIndex new.slots (index ++ (opened + 1, key) ∷ [])
+  adds_index index is = rw add-one (IsIndex-more old new key (suc opened) (Some entry) index adds_switches adds.table.distinct is entry (slot_of-unopened old opened (suc opened) adds.table (omega arith)) refl)
 
   adds_counted : slab_len new ≡ counted (links_to new.slots (opened + 1))
   adds_counted =
@@ -278,11 +327,15 @@ module _ (old new : Slab Entry) (opened key : ℕ) (entry : Entry) (adds : Adds 
         record { sound = was.sound; from_one = was.from_one; given = omega arith; counts = was.counts }
   ]
 
-  pub Adds-table : IsTable new (opened + 1)
-  Adds-table = record {
+  adds_table : IsTable new (opened + 1)
+  adds_table = record {
     listed = adds_listed;
     distinct = Switches-distinct old new key (suc opened) (Some entry) adds_switches adds.table.distinct;
     all_counted = adds_counted;
     in_limit = omega (arith, adds.len, adds.below);
     numbered = adds.last;
   }
+
+  -- the table and its index, at whose end the number is
+  pub Adds-indexed : (index more : List (ℕ × ℕ)) → IsIndex old.slots index → more ≡ index ++ (opened + 1, key) ∷ [] → IsTable new (opened + 1) × IsIndex new.slots more
+  Adds-indexed index more is same = (adds_table, subst (IsIndex new.slots) (sym same) (adds_index index is))

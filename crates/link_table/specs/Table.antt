@@ -1,8 +1,10 @@
 -- How the slots of the table stand for links.
 use Rattle.std.specs.Prelude.{◌≡◌, ℕ, zero, suc, ◌+◌, ◌^◌, ◌<◌, ◌≤◌, ◌==◌, Bool, true, List, [], ◌∷◌, ◌++◌, Option, Some, None, if◌then◌else◌, refl}
 use Rattle.std.specs.List.{find}
+use Rattle.std.specs.Option.{option_map}
 use Rattle.slab.specs.Slab.{Slab, get, slab_len, entries_from, Updates, HasRoomFor}
 use Rattle.link_table.specs.Links.{Link, bytes_of, fits, all_filled, suits, new_link, is_counted, counted}
+use Rattle.link_table.specs.Index.{key_of, without}
 use Rattle.link_table.specs.declared.entry.Entry.{Entry}
 use Rattle.link_table.specs.declared.state.LinkState.TheVariants.{Open, Gone}
 
@@ -21,6 +23,18 @@ has_number number slot = slot.1.number == number
 -- the first slot with this number, with its key
 abbrev pub slot_of : List (Option Entry) → ℕ → Option (ℕ × Entry)
 slot_of slots number = find (has_number number) (entries_from 0 slots)
+
+-- the key of the slot of a number, if it has one
+abbrev pub key_in : List (Option Entry) → ℕ → Option ℕ
+key_in slots number = option_map (λ slot. slot.0) (slot_of slots number)
+
+-- the entry of a number, if it has a slot
+abbrev pub entry_in : List (Option Entry) → ℕ → Option Entry
+entry_in slots number = option_map (λ slot. slot.1) (slot_of slots number)
+
+-- an index has of each number the key of its slot
+pub record IsIndex (slots : List (Option Entry)) (index : List (ℕ × ℕ)) : Type 0 where
+  pub keys : (number : ℕ) → key_of index number ≡ key_in slots number
 
 -- the link in a slot, and a link that has none is gone
 abbrev pub link_or_gone : Option (ℕ × Entry) → Link
@@ -65,6 +79,10 @@ pub record IsTable (slots : Slab Entry) (opened : ℕ) : Type 0 where
 -- the slot of an entry, which is empty where the link does not count
 abbrev pub slot_left : Entry → Option Entry
 slot_left entry = if is_counted (link_of entry) then Some entry else None
+
+-- the index without the number of an entry, where the link does not count
+abbrev pub index_left : Entry → List (ℕ × ℕ) → List (ℕ × ℕ)
+index_left entry index = if is_counted (link_of entry) then index else without index entry.number
 
 -- how many slots an entry takes
 abbrev pub slots_of : Entry → ℕ

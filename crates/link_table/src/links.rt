@@ -1,10 +1,11 @@
 ghost use Rattle.std.specs.Prelude.{◌≡◌, ◌≤◌, [], None, OnErr, IfOk, length};
-ghost use Rattle.std.specs.Option.{option_map};
+ghost use Rattle.std.specs.Option.{option_copied};
 ghost use Rattle.slab.specs.Slab.{get, HasRoomFor};
 ghost use Rattle.link_table.specs.Links.{changed, sent, ended, lost, taken, state_of, pending_of, counted, oldest, Opens, AreLinks};
-ghost use Rattle.link_table.specs.Table.{slot_of, TakesOut, PutsBack};
+ghost use Rattle.link_table.specs.Table.{entry_in, index_left, IsIndex, TakesOut, PutsBack};
 
 use crate::entry::Entry;
+use crate::index::Index;
 use crate::{LinkState, Message};
 use m3_terms::{Bytes, NoMemory};
 use slab::Slab;
@@ -22,6 +23,8 @@ pub const PENDING_LIMIT: u64 = 8_388_608;
 pub struct Links {
     // The links that count. A link that is gone has no slot, so it takes no memory.
     slots: Slab<Entry>,
+    // Which slot each of them has.
+    index: Index,
     opened: u32,
     alloc: Global,
 }
@@ -32,11 +35,11 @@ impl Model for Links {
 
     ghost Value = { List Link };
 
-    ghost use Rattle.link_table.specs.Table.{links_to, IsTable};
+    ghost use Rattle.link_table.specs.Table.{links_to, IsTable, IsIndex};
 
     ghost view = { λ l. links_to l.slots.slots l.opened };
 
-    ghost invariant = { λ l. IsTable l.slots l.opened };
+    ghost invariant = { λ l. IsTable l.slots l.opened × IsIndex l.slots.slots l.index };
 }
 
 impl Links {
@@ -46,6 +49,7 @@ impl Links {
     {
         Links {
             slots: Slab::new(alloc),
+            index: Index::new(alloc),
             opened: 0,
             alloc,
         }
@@ -63,6 +67,7 @@ impl Links {
         }
         self.slots.reserve(1)?;
         let number = self.opened + 1;
+        self.index.push(number, self.slots.vacant_key())?;
         self.slots.insert_reserved(Entry::new(self.alloc, number));
         self.opened = number;
         Ok(Some(number))
@@ -81,8 +86,8 @@ impl Links {
     pub fn state(&self, number: u32) -> LinkState
         ensures { result ≡ state_of self.now number }
     {
-        match find(&self.slots, number) {
-            Some((_, entry)) => entry.state,
+        match find(&self.slots, &self.index, number) {
+            Some(entry) => entry.state,
             None if number == 0 || number > self.opened => LinkState::Never,
             None => LinkState::Gone,
         }
@@ -92,8 +97,8 @@ impl Links {
     pub fn waiting(&self, number: u32) -> usize
         ensures { result ≡ length (pending_of self.now number) }
     {
-        match find(&self.slots, number) {
-            Some((_, entry)) => entry.pending.len(),
+        match find(&self.slots, &self.index, number) {
+            Some(entry) => entry.pending.len(),
             None => 0,
         }
     }
@@ -103,9 +108,9 @@ impl Links {
     pub fn send(&mut self, number: u32, message: Message)
         ensures { self.new ≡ changed (sent message) self.old number }
     {
-        if let Some(mut entry) = take_out(&mut self.slots, number) {
+        if let Some(mut entry) = take_out(&mut self.slots, &self.index, number) {
             entry.send(message);
-            put_back(&mut self.slots, entry);
+            put_back(&mut self.slots, &mut self.index, entry);
         }
     }
 
@@ -113,9 +118,9 @@ impl Links {
     pub fn end(&mut self, number: u32)
         ensures { self.new ≡ changed ended self.old number }
     {
-        if let Some(mut entry) = take_out(&mut self.slots, number) {
+        if let Some(mut entry) = take_out(&mut self.slots, &self.index, number) {
             entry.end();
-            put_back(&mut self.slots, entry);
+            put_back(&mut self.slots, &mut self.index, entry);
         }
     }
 
@@ -123,9 +128,9 @@ impl Links {
     pub fn lose(&mut self, number: u32)
         ensures { self.new ≡ changed lost self.old number }
     {
-        if let Some(mut entry) = take_out(&mut self.slots, number) {
+        if let Some(mut entry) = take_out(&mut self.slots, &self.index, number) {
             entry.lose();
-            put_back(&mut self.slots, entry);
+            put_back(&mut self.slots, &mut self.index, entry);
         }
     }
 
@@ -134,42 +139,46 @@ impl Links {
         ensures message { result ≡ oldest (pending_of self.old number) }
         ensures rest { self.new ≡ changed taken self.old number }
     {
-        let mut entry = take_out(&mut self.slots, number)?;
+        let mut entry = take_out(&mut self.slots, &self.index, number)?;
         let message = entry.take();
-        put_back(&mut self.slots, entry);
+        put_back(&mut self.slots, &mut self.index, entry);
         message
     }
 }
 
-// The link of a number that counts, with its key.
-fn find(slots: &Slab<Entry>, number: u32) -> Option<(usize, &Entry)>
-    ensures { option_map (λ slot. (slot.0, slot.1.now)) result ≡ slot_of slots.now.slots number }
+// The link of a number, if it counts.
+fn find<'a>(slots: &'a Slab<Entry>, index: &Index, number: u32) -> Option<&'a Entry>
+    requires { IsIndex slots.now.slots index.now }
+    ensures { option_copied result ≡ entry_in slots.now.slots number }
 {
-    for (key, entry) in slots.iter() {
-        if entry.number == number {
-            return Some((key, entry));
-        }
-    }
-    None
-}
-
-// Takes out the link of a number, if it counts.
-fn take_out(slots: &mut Slab<Entry>, number: u32) -> Option<Entry>
-    ensures { TakesOut slots.old number result slots.new }
-{
-    match find(slots, number) {
-        Some((key, _)) => Some(slots.remove(key)),
+    match index.key_of(number) {
+        Some(key) => slots.get(key),
         None => None,
     }
 }
 
-// Puts a link back where one was taken out, if it still counts. It takes no memory.
-fn put_back(slots: &mut Slab<Entry>, entry: Entry)
+// Takes out the link of a number, if it counts.
+fn take_out(slots: &mut Slab<Entry>, index: &Index, number: u32) -> Option<Entry>
+    requires { IsIndex slots.old.slots index.now }
+    ensures { TakesOut slots.old number result slots.new }
+{
+    match index.key_of(number) {
+        Some(key) => Some(slots.remove(key)),
+        None => None,
+    }
+}
+
+// Puts a link back where one was taken out, or takes its number out of the index where it counts no more. It takes no
+// memory.
+fn put_back(slots: &mut Slab<Entry>, index: &mut Index, entry: Entry)
     requires room { HasRoomFor slots.old 1 }
     requires vacant { get slots.old slots.old.vacant_key ≡ None }
-    ensures { PutsBack slots.old entry slots.new }
+    ensures slots { PutsBack slots.old entry slots.new }
+    ensures index { index.new ≡ index_left entry index.old }
 {
     if entry.counts() {
         slots.insert_reserved(entry);
+    } else {
+        index.remove(entry.number);
     }
 }

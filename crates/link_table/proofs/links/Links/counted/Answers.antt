@@ -7,4 +7,4 @@ use Rattle.link_table.proofs.links.Links.counted.Goals as goal
 pub returns-clause-links : goal.returns-clause-links
 returns-clause-links c =
     let i = c.self.inside in
-    subst AreLinks c.self.view_is (IsTable-links i.slots i.opened c.self.invariant)
+    subst AreLinks c.self.view_is (IsTable-links i.slots i.opened c.self.invariant.0)

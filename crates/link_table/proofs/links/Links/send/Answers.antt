@@ -1,19 +1,19 @@
 use Rattle.std.proofs.Common.{refl, sym}
 use Rattle.link_table.specs.Links.{sent}
 use Rattle.link_table.proofs.LinkLemmas.{changed-gone}
-use Rattle.link_table.proofs.TableLemmas.{Removes-entry, Replaces-by, Replaces-changed, Replaces-table, settled-sent}
+use Rattle.link_table.proofs.TableLemmas.{Removes-entry, Replaces-by, Replaces-changed, Replaces-indexed, settled-sent}
 use Rattle.link_table.proofs.links.Links.send.Goals as goal
 
 pub send-requires : goal.send-requires
-send-requires c = Removes-entry _ _ _ _ _ c.self.invariant c.in-Some.ensures
+send-requires c = Removes-entry _ _ _ _ _ c.self.invariant.0 c.in-Some.ensures
 
 pub invariant_of-self : goal.invariant_of-self
 invariant_of-self c =
-    Replaces-table _ _ _ _ _ _ _ (Replaces-by _ _ _ _ _ _ _ c.self.invariant c.in-Some.ensures c.put_back.ensures c.send.ensures.number c.send.ensures.sound)
+    Replaces-indexed _ _ _ _ _ _ _ (Replaces-by _ _ _ _ _ _ _ c.self.invariant.0 c.in-Some.ensures c.put_back.ensures.slots c.send.ensures.number c.send.ensures.sound) _ _ c.self.invariant.1 c.put_back.ensures.index
 
 pub returns-in-Some : goal.returns-in-Some
 returns-in-Some c =
-    let replaces = Replaces-by _ _ _ _ _ _ _ c.self.invariant c.in-Some.ensures c.put_back.ensures c.send.ensures.number c.send.ensures.sound in
+    let replaces = Replaces-by _ _ _ _ _ _ _ c.self.invariant.0 c.in-Some.ensures c.put_back.ensures.slots c.send.ensures.number c.send.ensures.sound in
     rw (← c.self.view_is) (Replaces-changed _ _ _ _ _ _ _ replaces (sent c.args.message) (settled-sent c.args.message) c.send.ensures.link)
 
 pub returns-in_default : goal.returns-in_default
