@@ -4,3 +4,4 @@ pub mod SlotLemmas
 pub mod SwitchedIndex
 pub mod LinkLemmas
 pub mod TableLemmas
+pub mod OpenLinksByIndex

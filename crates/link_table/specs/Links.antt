@@ -1,6 +1,7 @@
 -- The links of a space, in the order in which they were opened: the state of each, and the messages that wait to be taken.
 use Rattle.std.specs.Prelude.{◌≡◌, ℕ, ◌+◌, ◌-◌, ◌^◌, ◌<◌, ◌≤◌, Bool, true, false, not, ◌||◌, nat_le, nat_lt, if◌then◌else◌, List, [], ◌∷◌, ◌++◌, length, drop, slice_get, slice_set, count_by, sum_by, Option, Some, None, codes, refl}
 use Rattle.std.specs.List.{list_all}
+use Rattle.link_table.specs.declared.open_link.OpenLink.{OpenLink}
 use Rattle.link_table.specs.declared.state.LinkState.{LinkState}
 use Rattle.link_table.specs.declared.state.LinkState.TheVariants.{Never, Open, Ended, Overrun, Gone}
 
@@ -103,6 +104,19 @@ is_counted link = is_open link.state || is_waiting link.pending
 abbrev pub counted : List Link → ℕ
 counted links = count_by is_counted links
 
+-- the link of this number, if it is open, with how many messages wait on it
+abbrev pub if_open : ℕ → Link → List OpenLink
+if_open number link = if is_open link.state then record { number = number; waiting = length link.pending } ∷ [] else []
+
+-- of links that are numbered from this on, those that are open
+abbrev pub open_from : ℕ → List Link → List OpenLink
+open_from number [] = []
+open_from number (link ∷ links) = if_open number link ++ open_from (number + 1) links
+
+-- the links that are open, by rising number, each with how many messages wait on it
+abbrev pub open_links : List Link → List OpenLink
+open_links links = open_from 1 links
+
 -- no link may open: 256 count, or the last number was given
 abbrev pub is_full : List Link → Bool
 is_full links = nat_le 256 (counted links) || nat_le (2 ^ 32 - 1) (length links)
@@ -156,3 +170,11 @@ example_never = (refl, refl)
 -- what is sent on a link that ended is dropped
 example_closed : changed (sent (codes "b")) (changed ended (new_link ∷ []) 1) 1 ≡ record { state = Gone; pending = [] } ∷ []
 example_closed = refl
+
+-- of three links the first is open with a message, the second has ended and the third is open with none
+example_open : open_links (changed ended (changed (sent (codes "a")) (new_link ∷ new_link ∷ new_link ∷ []) 1) 2) ≡ record { number = 1; waiting = 1 } ∷ record { number = 3; waiting = 0 } ∷ []
+example_open = refl
+
+-- a link that ended isn't open, although a message waits on it
+example_waited_on : open_links (changed ended (changed (sent (codes "a")) (new_link ∷ []) 1) 1) ≡ []
+example_waited_on = refl

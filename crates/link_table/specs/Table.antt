@@ -3,8 +3,9 @@ use Rattle.std.specs.Prelude.{◌≡◌, ℕ, zero, suc, ◌+◌, ◌^◌, ◌<�
 use Rattle.std.specs.List.{find}
 use Rattle.std.specs.Option.{option_map}
 use Rattle.slab.specs.Slab.{Slab, get, slab_len, entries_from, Updates, HasRoomFor}
-use Rattle.link_table.specs.Links.{Link, bytes_of, fits, all_filled, suits, new_link, is_counted, counted}
+use Rattle.link_table.specs.Links.{Link, if_open, bytes_of, fits, all_filled, suits, new_link, is_counted, counted}
 use Rattle.link_table.specs.Index.{key_of, without}
+use Rattle.link_table.specs.declared.open_link.OpenLink.{OpenLink}
 use Rattle.link_table.specs.declared.entry.Entry.{Entry}
 use Rattle.link_table.specs.declared.state.LinkState.TheVariants.{Open, Gone}
 
@@ -35,6 +36,11 @@ entry_in slots number = option_map (λ slot. slot.1) (slot_of slots number)
 -- an index has of each number the key of its slot
 pub record IsIndex (slots : List (Option Entry)) (index : List (ℕ × ℕ)) : Type 0 where
   pub keys : (number : ℕ) → key_of index number ≡ key_in slots number
+
+-- the link of an entry, if there is an entry and it is open
+abbrev pub open_in : Option Entry → List OpenLink
+open_in None = []
+open_in (Some entry) = if_open entry.number (link_of entry)
 
 -- the link in a slot, and a link that has none is gone
 abbrev pub link_or_gone : Option (ℕ × Entry) → Link

@@ -1,8 +1,8 @@
-ghost use Rattle.std.specs.Prelude.{◌≡◌};
-ghost use Rattle.link_table.specs.Links.{new_link, sent, ended, lost, taken, closed_link, is_open, is_counted, oldest};
+ghost use Rattle.std.specs.Prelude.{◌≡◌, option_to_list};
+ghost use Rattle.link_table.specs.Links.{new_link, if_open, sent, ended, lost, taken, closed_link, is_open, is_counted, oldest};
 ghost use Rattle.link_table.specs.Table.{link_of, IsEntry};
 
-use crate::{LinkState, Message, PENDING_LIMIT};
+use crate::{LinkState, Message, OpenLink, PENDING_LIMIT};
 use m3_terms::Bytes;
 use std::alloc::Global;
 use std::collections::LinkedList;
@@ -44,6 +44,19 @@ impl Entry {
         ensures { result ≡ is_counted (link_of self.now) }
     {
         self.is_open() || !self.pending.is_empty()
+    }
+
+    /// The link, if it is open.
+    pub fn open_link(&self) -> Option<OpenLink>
+        ensures { option_to_list result ≡ if_open self.now.number (link_of self.now) }
+    {
+        if !self.is_open() {
+            return None;
+        }
+        Some(OpenLink {
+            number: self.number,
+            waiting: self.pending.len(),
+        })
     }
 
     /// Puts a message behind those that wait.

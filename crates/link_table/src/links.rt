@@ -1,12 +1,12 @@
-ghost use Rattle.std.specs.Prelude.{◌≡◌, ◌≤◌, [], None, OnErr, IfOk, length};
+ghost use Rattle.std.specs.Prelude.{◌≡◌, ◌≤◌, [], None, OnErr, IfOk, length, option_to_list};
 ghost use Rattle.std.specs.Option.{option_copied};
 ghost use Rattle.slab.specs.Slab.{get, HasRoomFor};
-ghost use Rattle.link_table.specs.Links.{changed, sent, ended, lost, taken, state_of, pending_of, counted, oldest, Opens, AreLinks};
-ghost use Rattle.link_table.specs.Table.{entry_in, index_left, IsIndex, TakesOut, PutsBack};
+ghost use Rattle.link_table.specs.Links.{changed, sent, ended, lost, taken, state_of, pending_of, open_links, counted, oldest, Opens, AreLinks};
+ghost use Rattle.link_table.specs.Table.{entry_in, open_in, index_left, IsIndex, TakesOut, PutsBack};
 
 use crate::entry::Entry;
 use crate::index::Index;
-use crate::{LinkState, Message};
+use crate::{LinkState, Message, OpenLink};
 use m3_terms::{Bytes, NoMemory};
 use slab::Slab;
 use std::alloc::Global;
@@ -103,6 +103,20 @@ impl Links {
         }
     }
 
+    /// The links that are open, by rising number. It allocates once at most, room for as many as count.
+    pub fn open_links(&self, alloc: Global) -> Result<Vec<OpenLink>, NoMemory>
+        ensures { IfOk result (λ found. found.items ≡ open_links self.now) }
+    {
+        let pairs = self.index.pairs();
+        let mut found = Vec::with_capacity(alloc, pairs.len())?;
+        for pair in pairs {
+            if let Some(link) = open_at(&self.slots, pair.1) {
+                found.push_reserved(link);
+            }
+        }
+        Ok(found)
+    }
+
     /// Puts a message behind those that wait on a link, if the link is open. Where more than [`PENDING_LIMIT`] bytes would
     /// wait, it drops the message and the link is overrun. It takes no memory.
     pub fn send(&mut self, number: u32, message: Message)
@@ -153,6 +167,16 @@ fn find<'a>(slots: &'a Slab<Entry>, index: &Index, number: u32) -> Option<&'a En
 {
     match index.key_of(number) {
         Some(key) => slots.get(key),
+        None => None,
+    }
+}
+
+// The link of an entry, if it is open.
+fn open_at(slots: &Slab<Entry>, key: usize) -> Option<OpenLink>
+    ensures { option_to_list result ≡ open_in (get slots.now key) }
+{
+    match slots.get(key) {
+        Some(entry) => entry.open_link(),
         None => None,
     }
 }
