@@ -5,3 +5,6 @@ pub mod SwitchedIndex
 pub mod LinkLemmas
 pub mod TableLemmas
 pub mod OpenLinksByIndex
+pub mod OtherLinksStay
+pub mod NoLinkOpensAgain
+pub mod OpeningKeepsLinks

@@ -17,7 +17,7 @@ pub slot_of-key : (slots : List (Option Entry)) (index : List (ℕ × ℕ)) (num
 slot_of-key slots index number key is has =
     let in_slots : key_in slots number ≡ Some key = sym (is.keys number) ∙ has in
     elim (slot_cases (slot_of slots number)) [
-      | inl none ↦ absurd (cc (ap key_or_none none))
+      | inl none ↦ absurd (cc)
       | inr slot ↦ let same : slot.0 ≡ key = cc (ap key_or_none slot.2) in (slot.1, slot.2 ∙ ap (λ (k : ℕ). Some (k, slot.1)) same)
     ]
 
