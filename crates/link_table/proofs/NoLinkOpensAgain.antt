@@ -1,7 +1,7 @@
 -- A link that is open after a change was open before it.
-use Rattle.std.proofs.Common.{◌≡◌, ◌≢◌, ℕ, Bool, true, false, List, [], ◌∷◌, ◌++◌, drop, Option, Some, None, option_map, refl, sym, ap, ◌∙◌, inl, inr, arith}
+use Rattle.std.proofs.Common.{◌≡◌, ℕ, true, List, [], ◌∷◌, drop, Option, Some, None, option_map, sym, ap, ◌∙◌, inl, inr}
 use Rattle.std.proofs.lemmas.Bool.{cases_eq, cases_Bool}
-use Rattle.link_table.specs.Links.{Link, is_open, closed_link, with_message, sent, ended, lost, taken, link_at, changed, state_of, state_or_never}
+use Rattle.link_table.specs.Links.{Link, is_open, closed_link, sent, ended, lost, taken, link_at, changed, state_of, state_or_never}
 use Rattle.link_table.specs.declared.state.LinkState.{LinkState}
 use Rattle.link_table.proofs.OtherLinksStay.{link_at-changed, state_of-others}
 
@@ -15,10 +15,10 @@ is_open-closed state [] open_now = absurd (cc)
 is_open-closed state (message ∷ pending) open_now = open_now
 
 pub OpensNone-sent : (message : List ℕ) → OpensNone (sent message)
-OpensNone-sent message link open_now = elim (cases_Bool (is_open link.state)) [ | inl was ↦ was | inr not ↦ rw not at open_now ]
+OpensNone-sent message link open_now = elim (cases_Bool (is_open link.state)) [ inl was ↦ was | inr not ↦ rw not at open_now ]
 
 pub OpensNone-ended : OpensNone ended
-OpensNone-ended link open_now = elim (cases_Bool (is_open link.state)) [ | inl was ↦ was | inr not ↦ rw not at open_now ]
+OpensNone-ended link open_now = elim (cases_Bool (is_open link.state)) [ inl was ↦ was | inr not ↦ rw not at open_now ]
 
 pub OpensNone-lost : OpensNone lost
 OpensNone-lost link open_now = absurd (cc)

@@ -1,13 +1,13 @@
 -- The links that are open are those of the index that are.
-use Rattle.std.proofs.Common.{◌≡◌, ◌≢◌, ℕ, zero, suc, ◌+◌, ◌<◌, ◌≤◌, Bool, true, false, List, [], ◌∷◌, ◌++◌, length, get_or, Option, Some, None, refl, sym, ap, subst, ◌∙◌, inl, inr, arith, append_assoc, add-one, length-append}
+use Rattle.std.proofs.Common.{◌≡◌, ℕ, zero, suc, ◌+◌, ◌<◌, ◌≤◌, List, [], ◌∷◌, ◌++◌, length, get_or, None, refl, sym, ap, subst, ◌∙◌, inl, inr, arith, append_assoc}
 use Rattle.std.specs.List.{All, flat_map}
-use Rattle.std.proofs.lemmas.Bool.{cases_eq, eq-eqb, ne_eqb}
+use Rattle.std.proofs.lemmas.Bool.{cases_eq, ne_eqb}
 use Rattle.std.proofs.lemmas.Grind.{common_steps}
 use Rattle.std.proofs.lemmas.List.{get_or_default}
 use Rattle.slab.specs.Slab.{Slab, get}
 use Rattle.link_table.specs.Links.{Link, if_open, open_from, open_links}
 use Rattle.link_table.specs.Index.{RiseFrom, key_of}
-use Rattle.link_table.specs.Table.{link_of, gone_link, slot_of, link_or_gone, link_in, links_to, open_in, IsTable, IsIndex}
+use Rattle.link_table.specs.Table.{link_of, link_or_gone, link_in, links_to, open_in, IsTable, IsIndex}
 use Rattle.link_table.specs.declared.entry.Entry.{Entry}
 use Rattle.link_table.specs.declared.open_link.OpenLink.{OpenLink}
 use Rattle.link_table.proofs.RisingPairs.{key_of-below, key_of-at}
@@ -46,14 +46,14 @@ along-pairs part number (suc count) (pair ∷ pairs) rise all nothing = elim (ca
   | inl here ↦
       let rest : RiseFrom (number + 1) pairs = subst (λ (n : ℕ). RiseFrom (n + 1) pairs) here rise.1 in
       rw here (ap (λ later. part number ++ later) (along-pairs part (number + 1) count pairs rest
-        (λ place other within. omega (arith, all (suc place) other (omega arith)))
-        (λ other above none. nothing other (omega arith) (rw (ne_eqb pair.0 other (λ same. omega arith)) none))))
+      (λ place other within. omega (arith, all (suc place) other (omega arith)))
+      (λ other above none. nothing other (omega arith) (rw (ne_eqb pair.0 other (λ same. omega arith)) none))))
   | inr differs ↦
       let above : number + 1 ≤ pair.0 = omega (arith, rise.0) in
       let none = key_of-below (pair ∷ pairs) (number + 1) number (above, rise.1) (omega arith) in
       rw (nothing number (omega arith) none) (along-pairs part (number + 1) count (pair ∷ pairs) (above, rise.1)
-        (λ place other within. omega (arith, all place other within))
-        (λ other above none. nothing other (omega arith) none))
+      (λ place other within. omega (arith, all place other within))
+      (λ other above none. nothing other (omega arith) none))
 ]
 
 flat_map-same : {A : Type 0} (one other : A → List OpenLink) (xs : List A) → All (λ x. one x ≡ other x) xs → flat_map one xs ≡ flat_map other xs
@@ -90,9 +90,9 @@ module _ (slots : Slab Entry) (opened : ℕ) (index : List (ℕ × ℕ)) (table 
       let (entry, in_slot) = slot_of-key slots.slots index pair.0 pair.1 is (key_of-at index 1 pair.0 place rise within refl) in
       let found = slot_of-found slots pair.0 pair.1 entry in_slot in
       subst (λ (p : ℕ × ℕ). open_in (get slots p.1) ≡ part p.0) (sym (get_or_default index place other (0, 0) within)) (
-        ap open_in found.0
-        ∙ ap (λ n. if_open n (link_of entry)) found.1
-        ∙ ap (λ slot. if_open pair.0 (link_or_gone slot)) (sym in_slot)
+      ap open_in found.0
+      ∙ ap (λ n. if_open n (link_of entry)) found.1
+      ∙ ap (λ slot. if_open pair.0 (link_or_gone slot)) (sym in_slot)
       )
 
   pub open_links-index : flat_map (λ pair. open_in (get slots pair.1)) index ≡ open_links (links_to slots.slots opened)

@@ -1,5 +1,5 @@
 -- The links with one more at the end: those that were there stay.
-use Rattle.std.proofs.Common.{◌≡◌, ◌≢◌, ℕ, zero, suc, ◌+◌, ◌<◌, ◌≤◌, List, [], ◌∷◌, ◌++◌, length, Option, Some, None, slice_get, refl, sym, ap, ◌∙◌, arith, add-one}
+use Rattle.std.proofs.Common.{◌≡◌, ℕ, zero, suc, ◌+◌, ◌<◌, ◌≤◌, List, [], ◌∷◌, ◌++◌, length, Some, slice_get, refl, sym, ap, ◌∙◌, arith, add-one}
 use Rattle.link_table.specs.Links.{Link, new_link, link_at, state_of, state_or_never, pending_of, pending_or_none}
 use Rattle.link_table.specs.declared.state.LinkState.TheVariants.{Open}
 use Rattle.link_table.proofs.OtherLinksStay.{link_at-suc}

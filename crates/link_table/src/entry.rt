@@ -50,13 +50,11 @@ impl Entry {
     pub fn open_link(&self) -> Option<OpenLink>
         ensures { option_to_list result ≡ if_open self.now.number (link_of self.now) }
     {
-        if !self.is_open() {
-            return None;
-        }
-        Some(OpenLink {
+        let link = OpenLink {
             number: self.number,
             waiting: self.pending.len(),
-        })
+        };
+        self.is_open().then_some(link)
     }
 
     /// Puts a message behind those that wait.

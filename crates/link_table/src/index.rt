@@ -76,8 +76,6 @@ impl Index {
     fn place(&self, number: u32) -> Option<usize>
         ensures { StandsAt self.now number result }
     {
-        self.pairs
-            .binary_search_by_key(&number, |pair| pair.0)
-            .ok()
+        self.pairs.binary_search_by_key(&number, |pair| pair.0).ok()
     }
 }

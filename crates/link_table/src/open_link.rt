@@ -1,6 +1,7 @@
-/// A link that is open, and how many messages wait on it.
+/// A link that is open.
 #[derive(Clone, Copy, Debug, PartialEq, Eq)]
 pub struct OpenLink {
     pub number: u32,
+    /// How many messages wait on it.
     pub waiting: usize,
 }

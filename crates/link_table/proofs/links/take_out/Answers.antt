@@ -1,4 +1,4 @@
-use Rattle.std.proofs.Common.{refl, sym, ◌∙◌}
+use Rattle.std.proofs.Common.{refl, sym}
 use Rattle.link_table.proofs.SlotLemmas.{slot_of-found}
 use Rattle.link_table.proofs.SwitchedIndex.{slot_of-key, slot_of-no_key}
 use Rattle.link_table.proofs.TableLemmas.{Removes-found}

@@ -1,4 +1,4 @@
-use Rattle.std.proofs.Common.{sym, subst, ◌∙◌}
+use Rattle.std.proofs.Common.{sym, subst}
 use Rattle.link_table.specs.Index.{RiseFrom}
 use Rattle.link_table.proofs.RisingPairs.{RiseFrom-without, without-at, without-absent}
 use Rattle.link_table.proofs.index.Index.remove.Goals as goal

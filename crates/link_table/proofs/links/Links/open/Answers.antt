@@ -1,4 +1,4 @@
-use Rattle.std.proofs.Common.{◌≡◌, ◌+◌, refl, sym, ap, ◌∙◌, inl, inr, arith, ◌++◌, ◌∷◌, []}
+use Rattle.std.proofs.Common.{◌+◌, refl, sym, ap, ◌∙◌, inl, inr, arith, ◌++◌, ◌∷◌, []}
 use Rattle.slab.specs.Slab.{slab_len}
 use Rattle.link_table.specs.Links.{new_link}
 use Rattle.link_table.specs.Table.{links_to}

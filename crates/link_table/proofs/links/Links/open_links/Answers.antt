@@ -1,8 +1,7 @@
-use Rattle.std.proofs.Common.{◌≡◌, ℕ, ap, subst, ◌∙◌, take, arith, length}
+use Rattle.std.proofs.Common.{◌≡◌, ℕ, ap, ◌∙◌, take, arith}
 use Rattle.std.proofs.lemmas.Grind.{common_steps}
 use Rattle.std.specs.List.{flat_map}
 use Rattle.slab.specs.Slab.{get}
-use Rattle.link_table.specs.Index.{RiseFrom}
 use Rattle.link_table.specs.Links.{open_links}
 use Rattle.link_table.specs.Table.{open_in}
 use Rattle.link_table.proofs.OpenLinksByIndex.{open_links-index}
