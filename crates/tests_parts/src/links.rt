@@ -1,6 +1,6 @@
 //! Links are opened, sent to, ended, lost and taken from, up to the limits.
 
-use link_table::{LINK_LIMIT, LinkState, Links, Message, PENDING_LIMIT};
+use link_table::{LINK_LIMIT, LinkState, Links, Message, OpenLink, PENDING_LIMIT};
 use m3_terms::Bytes;
 use std::alloc::Global;
 use std::test::Fail;
@@ -99,5 +99,26 @@ fn numbers_are_not_given_again(rt: HostRuntime) -> Result<(), Fail> {
     links.end(7);
     assert_eq!(rt; links.open()?, Some(257));
     assert_eq!(rt; links.open()?, None);
+    Ok(())
+}
+
+fn told(number: u32, waiting: usize) -> OpenLink {
+    OpenLink { number, waiting }
+}
+
+#[test]
+fn open_links_are_told_by_their_numbers(rt: HostRuntime) -> Result<(), Fail> {
+    let mut links = Links::new(rt.alloc());
+    assert!(rt; links.open_links(rt.alloc())?.is_empty());
+    for number in 1..=4 {
+        assert_eq!(rt; links.open()?, Some(number));
+    }
+    links.send(2, message(rt.alloc(), 5)?);
+    links.send(3, message(rt.alloc(), 7)?);
+    links.end(3);
+    links.lose(1);
+    let open = links.open_links(rt.alloc())?;
+    let wanted = [told(2, 1), told(4, 0)];
+    assert_eq!(rt; open.as_slice(), wanted.as_slice());
     Ok(())
 }
