@@ -120,6 +120,10 @@ open_entry number = record { number = number; state = Open; pending = []; bytes 
 example_links : links_to (None ∷ Some (open_entry 2) ∷ []) 3 ≡ gone_link ∷ new_link ∷ gone_link ∷ []
 example_links = refl
 
+-- an index that leads to the slot of the second
+example_key : key_in (None ∷ Some (open_entry 2) ∷ []) 2 ≡ key_of ((2, 1) ∷ []) 2
+example_key = refl
+
 -- an entry with no message that is not open leaves its slot empty
 example_left : slot_left (record (open_entry 1) { state = Gone }) ≡ None
 example_left = refl
