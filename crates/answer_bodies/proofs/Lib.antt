@@ -10,3 +10,7 @@ pub mod DistinctItems
 pub mod RowTriples
 pub mod RowCells
 pub mod ProjectedCells
+pub mod Among
+pub mod Searches
+pub mod Folding
+pub mod Differing

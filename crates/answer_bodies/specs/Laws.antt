@@ -1,5 +1,5 @@
--- What holds of reading and writing answers.
-use Rattle.std.specs.Prelude.{◌≡◌, ℕ, List, length, Option, Some, None, ⊤}
+-- What holds of reading and writing answers, and of their differences.
+use Rattle.std.specs.Prelude.{◌≡◌, ◌↔◌, IsTrue, ℕ, true, List, length, Option, Some, None, ⊤}
 use Rattle.std.specs.List.{AllByRecursion, IsDistinct}
 use Rattle.std.specs.List.Sorted.{IsStrictlySortedBy}
 use Rattle.m3_terms.specs.Term.{IsUriText, IsLiteralText, IsUri}
@@ -10,6 +10,8 @@ use Rattle.m3_terms.specs.declared.triple.Triple.{Triple}
 use Rattle.ssap_items.specs.declared.body.Body.{Body}
 use Rattle.answer_bodies.specs.declared.answer.Answer.{Answer}
 use Rattle.answer_bodies.specs.declared.answer.Answer.TheVariants.{Triples, Table}
+use Rattle.answer_bodies.specs.declared.answer.Difference.{Difference}
+use Rattle.answer_bodies.specs.Differences.{HaveOneForm, IsInOrder, MayFollow, Fits, HaveNothingInCommon, difference_of, folded, is_empty_difference}
 use Rattle.answer_bodies.specs.Reading.{IsReadAs, HasNoAnswer}
 use Rattle.answer_bodies.specs.WhyNot.{WhyNot}
 use Rattle.answer_bodies.specs.Writing.{body_of, IsFull}
@@ -72,3 +74,44 @@ SoundIsFull = (answer : Answer) → IsSound answer → IsFull answer
 -- each cause leaves a body without an answer
 abbrev pub CausesRefuse : Type 0
 CausesRefuse = (body : Body) → WhyNot body → HasNoAnswer body
+
+-- the difference of two answers, folded into the earlier, gives the later
+abbrev pub DifferencesAreFolded : Type 0
+DifferencesAreFolded = (before after : Answer) → MayFollow before after → folded before (difference_of before after) ≡ after
+
+-- the difference of two answers may be folded into the earlier
+abbrev pub DifferencesFit : Type 0
+DifferencesFit = (before after : Answer) → MayFollow before after → Fits before (difference_of before after)
+
+-- both sides of a difference are in order
+abbrev pub SidesAreInOrder : Type 0
+SidesAreInOrder = (before after : Answer) → MayFollow before after → IsInOrder (difference_of before after).added × IsInOrder (difference_of before after).obsolete
+
+-- both sides of a difference have as many cells in each row as the answers
+abbrev pub SidesAreFull : Type 0
+SidesAreFull = (before after : Answer) → IsFull before → IsFull after → IsFull (difference_of before after).added × IsFull (difference_of before after).obsolete
+
+-- nothing is both added and obsolete
+abbrev pub SidesAreApart : Type 0
+SidesAreApart = (before after : Answer) → HaveNothingInCommon (difference_of before after).added (difference_of before after).obsolete
+
+-- an answer differs from itself in nothing
+abbrev pub EqualsDifferInNothing : Type 0
+EqualsDifferInNothing = (answer : Answer) → is_empty_difference (difference_of answer answer) ≡ true
+
+-- two answers differ in nothing exactly where they are equal
+abbrev pub EmptyExactlyWhereEqual : Type 0
+EmptyExactlyWhereEqual = (before after : Answer) → MayFollow before after → IsTrue (is_empty_difference (difference_of before after)) ↔ (before ≡ after)
+
+-- an answer in order stays so when a difference is folded into it
+abbrev pub FoldedIsInOrder : Type 0
+FoldedIsInOrder = (answer : Answer) (difference : Difference) → IsInOrder answer → IsInOrder (folded answer difference)
+
+-- an answer keeps its form when a difference is folded into it
+abbrev pub FoldedKeepsForm : Type 0
+FoldedKeepsForm = (answer : Answer) (difference : Difference) → HaveOneForm answer (folded answer difference)
+
+-- an answer whose rows are full stays so when full rows are added
+abbrev pub FoldedIsFull : Type 0
+FoldedIsFull = (answer : Answer) (difference : Difference) → HaveOneForm answer difference.added → IsFull answer → IsFull difference.added
+    → IsFull (folded answer difference)

@@ -6,3 +6,4 @@ pub mod Found
 pub mod Laws
 pub mod Examples
 pub mod OfRows
+pub mod Differences

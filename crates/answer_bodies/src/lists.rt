@@ -1,9 +1,10 @@
-//! Lists in order, and doubles in them.
+//! Lists in order, doubles in them, and what is among them.
 ghost use Rattle.std.specs.Prelude.{◌≡◌, IfOk, MatchOption, IsTrue, ◌↔◌};
 ghost use Rattle.std.specs.List.{IsDistinct};
+ghost use Rattle.std.specs.List.Sorted.{IsStrictlySortedBy};
 ghost use Rattle.std.specs.Ordering.{eq_by_cmp};
 ghost use Rattle.m3_terms.specs.Order.{text_eq};
-ghost use Rattle.answer_bodies.specs.Lists.{IsOrdered};
+ghost use Rattle.answer_bodies.specs.Lists.{IsOrdered, is_among};
 
 use m3_terms::{Items, NoMemory, Text};
 
@@ -29,6 +30,14 @@ pub fn sorted<T: Ord + Drop>(items: Items<T>) -> Result<Items<T>, NoMemory>
         Some(items) => Ok(items),
         None => unreachable!(),
     }
+}
+
+/// Whether an item is among items in order.
+pub fn is_among<T: Ord>(items: &[T], item: &T) -> bool
+    requires { IsStrictlySortedBy T.cmp items.now }
+    ensures { result ≡ is_among T.cmp items.now item.now }
+{
+    items.binary_search(item).is_ok()
 }
 
 /// Whether no text is doubled.
