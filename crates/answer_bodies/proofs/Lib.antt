@@ -10,7 +10,9 @@ pub mod DistinctItems
 pub mod RowTriples
 pub mod RowCells
 pub mod ProjectedCells
-pub mod Among
-pub mod Searches
-pub mod Folding
-pub mod Differing
+pub mod AmongItems
+pub mod DedupKeeps
+pub mod FoldedItems
+pub mod SearchDecides
+pub mod FoldedForms
+pub mod DifferenceLaws

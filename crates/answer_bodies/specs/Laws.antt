@@ -83,11 +83,11 @@ DifferencesAreFolded = (before after : Answer) → MayFollow before after → fo
 abbrev pub DifferencesFit : Type 0
 DifferencesFit = (before after : Answer) → MayFollow before after → Fits before (difference_of before after)
 
--- both sides of a difference are in order
+-- both sides of the difference of two answers in order are in order
 abbrev pub SidesAreInOrder : Type 0
-SidesAreInOrder = (before after : Answer) → MayFollow before after → IsInOrder (difference_of before after).added × IsInOrder (difference_of before after).obsolete
+SidesAreInOrder = (before after : Answer) → IsInOrder before → IsInOrder after → IsInOrder (difference_of before after).added × IsInOrder (difference_of before after).obsolete
 
--- both sides of a difference have as many cells in each row as the answers
+-- both sides of the difference of two answers with full rows have full rows
 abbrev pub SidesAreFull : Type 0
 SidesAreFull = (before after : Answer) → IsFull before → IsFull after → IsFull (difference_of before after).added × IsFull (difference_of before after).obsolete
 

@@ -3,7 +3,7 @@ use Rattle.std.proofs.Common.{not, rules, ◌∙◌}
 use Rattle.std.proofs.lemmas.Fn.{filter_same}
 use Rattle.std.proofs.lemmas.List.Filters.{dedup_is}
 use Rattle.answer_bodies.specs.Lists.{is_among}
-use Rattle.answer_bodies.proofs.Among.{refolded}
+use Rattle.answer_bodies.proofs.FoldedItems.{refolded}
 use Rattle.answer_bodies.proofs.fold.fold_items.Goals as goal
 
 pub returns-clause-ok : goal.returns-clause-ok

@@ -1,5 +1,5 @@
 -- What each side of a difference has, list by list.
-use Rattle.answer_bodies.proofs.Differing.{differences_folded, differences_fit, sides_in_order, sides_full, sides_apart}
+use Rattle.answer_bodies.proofs.DifferenceLaws.{differences_folded, differences_fit, sides_in_order, sides_full, sides_apart}
 use Rattle.answer_bodies.proofs.laws.differences_lead_on.Goals as goal
 
 pub returns-clause-folded : goal.returns-clause-folded

@@ -1,5 +1,5 @@
 -- Two lists in order that lack nothing of each other are one.
-use Rattle.answer_bodies.proofs.Differing.{equals_differ, empty_exactly}
+use Rattle.answer_bodies.proofs.DifferenceLaws.{equals_differ, empty_exactly}
 use Rattle.answer_bodies.proofs.laws.empty_where_equal.Goals as goal
 
 pub returns-clause-equals : goal.returns-clause-equals

@@ -1,5 +1,5 @@
 -- What is taken away and put in its place, list by list.
-use Rattle.answer_bodies.proofs.Differing.{folded_in_order, folded_form, folded_full}
+use Rattle.answer_bodies.proofs.DifferenceLaws.{folded_in_order, folded_form, folded_full}
 use Rattle.answer_bodies.proofs.laws.folded_stays_in_order.Goals as goal
 
 pub returns-clause-in_order : goal.returns-clause-in_order

@@ -1,6 +1,6 @@
 -- A search among items in order finds what is among them.
 use Rattle.std.proofs.Common.{◌∙◌}
-use Rattle.answer_bodies.proofs.Searches.{search_decides}
+use Rattle.answer_bodies.proofs.SearchDecides.{search_decides}
 use Rattle.answer_bodies.proofs.lists.is_among.Goals as goal
 
 pub returns : goal.returns

@@ -1,7 +1,7 @@
 -- The answer and both sides of the difference have one form.
 use Rattle.std.proofs.Common.{sym, ap, ◌∙◌}
 use Rattle.answer_bodies.specs.declared.answer.Answer.TheVariants.{Triples, Table}
-use Rattle.answer_bodies.proofs.Folding.{triples_folded, table_folded}
+use Rattle.answer_bodies.proofs.FoldedForms.{triples_folded, table_folded}
 use Rattle.answer_bodies.proofs.answer.Answer.fold.Goals as goal
 use Rattle.answer_bodies.proofs.answer.Answer.fold.Goals.{in-Triples-Triples-Triples, in-Table-Table-Table}
 

@@ -11,7 +11,8 @@ use Rattle.answer_bodies.specs.Lists.{without}
 use Rattle.answer_bodies.specs.Writing.{AreFull, IsFull}
 use Rattle.answer_bodies.specs.declared.answer.Answer.{Answer}
 use Rattle.answer_bodies.specs.declared.answer.Answer.TheVariants.{Triples, Table}
-use Rattle.answer_bodies.proofs.Among.{folded_back, sorted_with_all, sorted_without, without_apart, without_itself, equal_lists, all_without, all_with_all}
+use Rattle.answer_bodies.proofs.AmongItems.{all_without, all_with_all}
+use Rattle.answer_bodies.proofs.FoldedItems.{folded_back, sorted_with_all, sorted_without, without_apart, without_itself, equal_lists}
 
 -- the order of triples answers `Equal` at one triple alone
 one_triple : CmpEqualImpliesEq triple_cmp
@@ -45,7 +46,7 @@ in_order_with (Table columns xs) (Triples ys) s = s
 in_order_with (Table columns xs) (Table names ys) s = sorted_with_all row_cmp_total one_row xs ys s
 
 pub sides_in_order : SidesAreInOrder
-sides_in_order before after are = (in_order_without after before are.later, in_order_without before after are.earlier)
+sides_in_order before after s t = (in_order_without after before t, in_order_without before after s)
 
 pub folded_in_order : FoldedIsInOrder
 folded_in_order answer difference s =
