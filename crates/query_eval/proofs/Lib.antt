@@ -1,7 +1,8 @@
 pub mod Counts
+pub mod ListsOfRows
 mod RowsOfOperators
 mod Sides
 mod Rooms
 mod TakenRows
-mod Projections
+pub mod Projections
 pub mod SumsDecideReads

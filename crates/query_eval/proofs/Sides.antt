@@ -40,6 +40,7 @@ pub record HasSides (graph : List Triple) (self left right : Algebra) : Type 0 w
   pub right_names : HasFewNames self → HasFewNames right
   pub left_smaller : length (parts left) < length (parts self)
   pub right_smaller : length (parts right) < length (parts self)
+  pub parts_are : parts self ≡ self ∷ (parts left ++ parts right)
 
 -- a part has one side
 pub record HasSide (graph : List Triple) (self inner : Algebra) : Type 0 where
@@ -47,6 +48,7 @@ pub record HasSide (graph : List Triple) (self inner : Algebra) : Type 0 where
   pub read : reads self graph ≡ reads inner graph
   pub names : HasFewNames self → HasFewNames inner
   pub smaller : length (parts inner) < length (parts self)
+  pub parts_are : parts self ≡ self ∷ parts inner
 
 -- a part whose sides are what was asked for
 remade : {X Y Z : Type 0} (F : X → Y → Z) (self : Z) (x got : X) (y other : Y) → self ≡ F x y → got ≡ x → other ≡ y → self ≡ F got other
@@ -111,6 +113,7 @@ module _ (graph : List Triple) where
         right_names = λ n. record { names = n.names; few = n.few; named = n.named.1 };
         left_smaller = fewer_left (parts got) (parts other);
         right_smaller = fewer_right (parts got) (parts other);
+        parts_are = refl;
       })
 
   pub join_named : {self left right got other : Algebra} (terms : ℕ → Option Term) (Rows : List Binding → Type 0) → self ≡ Join left right → got ≡ left → other ≡ right
@@ -129,6 +132,7 @@ module _ (graph : List Triple) where
         right_names = λ n. record { names = n.names; few = n.few; named = n.named.1 };
         left_smaller = fewer_left (parts got) (parts other);
         right_smaller = fewer_right (parts got) (parts other);
+        parts_are = refl;
       })
 
   pub union_named : {self left right got other : Algebra} (terms : ℕ → Option Term) (Rows : List Binding → Type 0) → self ≡ Union left right → got ≡ left → other ≡ right
@@ -147,6 +151,7 @@ module _ (graph : List Triple) where
         right_names = λ n. record { names = n.names; few = n.few; named = n.named.1 };
         left_smaller = fewer_left (parts got) (parts other);
         right_smaller = fewer_right (parts got) (parts other);
+        parts_are = refl;
       })
 
   pub left_join_named : {self left right got other : Algebra} {condition : Option Expr} (terms : ℕ → Option Term) (Rows : List Binding → Type 0) → self ≡ LeftJoin left right condition → got ≡ left → other ≡ right
@@ -162,6 +167,7 @@ module _ (graph : List Triple) where
     read = refl;
     names = λ n. record { names = n.names; few = n.few; named = n.named.1 };
     smaller = omega arith;
+    parts_are = refl;
   })
 
   pub filter_named : {self inner got : Algebra} {condition : Expr} (terms : ℕ → Option Term) (Rows : List Binding → Type 0) → self ≡ Filter condition inner → got ≡ inner

@@ -1,4 +1,4 @@
-//! The solutions of a pattern from those of its parts, bottom up.
+//! The solutions of the parts of a pattern, bottom up.
 ghost use Rattle.std.specs.Prelude.{◌≤◌, ◌+◌, [], MatchResult};
 ghost use Rattle.std.specs.List.{AllByRecursion};
 ghost use Rattle.m3_terms.specs.TermTable.{NamesOnce};
@@ -8,6 +8,7 @@ ghost use Rattle.pattern_join.specs.Scan.{scan};
 ghost use Rattle.query_eval.specs.Parts.{AreEvaluated, HasFewNames, WhyNotEvaluated};
 ghost use Rattle.query_eval.specs.Reads.{reads};
 
+use crate::lists::with_side;
 use crate::operators::{filter, join, left_join, union};
 use crate::taken::taken;
 use m3_terms::{Steps, TermTable};
@@ -17,8 +18,9 @@ use std::alloc::Global;
 use std::sync::ledger::Ledger;
 use triple_index::View;
 
-// The solutions of a pattern, each once. The room is what is left of the limit on the width; the width of the pattern is
-// taken off it. It calls itself for each side of a part.
+// The solutions of each part of a pattern, each once: those of the pattern itself first, then those of the parts of its
+// left side, then those of its right side. The room is what is left of the limit on the width; the width of the pattern
+// is taken off it. It calls itself for each side of a part.
 pub(crate) fn evaluate<T: TermTable, L: Ledger>(
     alloc: Global,
     view: &View<'_, L>,
@@ -26,12 +28,12 @@ pub(crate) fn evaluate<T: TermTable, L: Ledger>(
     pattern: &Algebra,
     room: &mut usize,
     steps: &mut Steps<L>,
-) -> Result<IdRows, EvalFault>
+) -> Result<Vec<IdRows>, EvalFault>
     requires once { NamesOnce (T.terms table.now) }
     requires triples { AreMeant (T.terms table.now) view.now }
     requires variables { HasFewNames pattern.now }
     requires room { room.old ≤ 65536 }
-    ensures part { MatchResult result (λ rows. AreEvaluated (T.terms table.now) (graph_in (T.terms table.now) view.now) pattern.now room.old room.new rows.rows) (WhyNotEvaluated (graph_in (T.terms table.now) view.now) pattern.now room.old) }
+    ensures part { MatchResult result (λ lists. AreEvaluated (T.terms table.now) (graph_in (T.terms table.now) view.now) pattern.now room.old room.new lists.items) (WhyNotEvaluated (graph_in (T.terms table.now) view.now) pattern.now room.old) }
     ensures reads { steps.new ≤ steps.old + reads pattern.now (graph_in (T.terms table.now) view.now) }
 {
     match pattern {
@@ -39,26 +41,26 @@ pub(crate) fn evaluate<T: TermTable, L: Ledger>(
         Algebra::Join(left, right) => {
             let left = evaluate(alloc, view, table, left.get(), room, steps)?;
             let right = evaluate(alloc, view, table, right.get(), room, steps)?;
-            join(alloc, &left, &right, room)
+            join(alloc, left, right, room)
         }
         Algebra::Union(left, right) => {
             let left = evaluate(alloc, view, table, left.get(), room, steps)?;
             let right = evaluate(alloc, view, table, right.get(), room, steps)?;
-            union(alloc, &left, &right, room)
+            union(alloc, left, right, room)
         }
         Algebra::LeftJoin(left, right, condition) => {
             let left = evaluate(alloc, view, table, left.get(), room, steps)?;
             let right = evaluate(alloc, view, table, right.get(), room, steps)?;
-            left_join(alloc, &left, &right, condition.as_ref(), table, room)
+            left_join(alloc, left, right, condition.as_ref(), table, room)
         }
         Algebra::Filter(condition, inner) => {
             let inner = evaluate(alloc, view, table, inner.get(), room, steps)?;
-            filter(alloc, condition, &inner, table, room)
+            filter(alloc, condition, inner, table, room)
         }
     }
 }
 
-// The solutions of a basic graph pattern.
+// The solutions of a basic graph pattern, as its only part.
 fn basic<T: TermTable, L: Ledger>(
     alloc: Global,
     view: &View<'_, L>,
@@ -66,17 +68,17 @@ fn basic<T: TermTable, L: Ledger>(
     bgp: &PatternList,
     room: &mut usize,
     steps: &mut Steps<L>,
-) -> Result<IdRows, EvalFault>
+) -> Result<Vec<IdRows>, EvalFault>
     requires once { NamesOnce (T.terms table.now) }
     requires triples { AreMeant (T.terms table.now) view.now }
     requires variables { AllByRecursion (HasNamedTriple 16) bgp.now }
     requires room { room.old ≤ 65536 }
-    ensures part { MatchResult result (λ rows. AreEvaluated (T.terms table.now) (graph_in (T.terms table.now) view.now) (Algebra.Bgp bgp.now) room.old room.new rows.rows) (WhyNotEvaluated (graph_in (T.terms table.now) view.now) (Algebra.Bgp bgp.now) room.old) }
+    ensures part { MatchResult result (λ lists. AreEvaluated (T.terms table.now) (graph_in (T.terms table.now) view.now) (Algebra.Bgp bgp.now) room.old room.new lists.items) (WhyNotEvaluated (graph_in (T.terms table.now) view.now) (Algebra.Bgp bgp.now) room.old) }
     ensures reads { steps.new ≤ steps.old + scan bgp.now [] (graph_in (T.terms table.now) view.now) }
 {
     let rows = bgp_all(alloc, view, table, bgp, steps)?;
     if rows.len() > *room {
         return Err(EvalFault::TooWide);
     }
-    Ok(taken(rows, room))
+    Ok(with_side(taken(rows, room), Vec::new(alloc))?)
 }

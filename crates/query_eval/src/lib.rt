@@ -2,8 +2,9 @@
 #![tactic(auto)]
 
 mod evaluate;
+mod lists;
 mod operators;
 mod query;
 mod taken;
 
-pub use query::answer;
+pub use query::{answer, part_rows};

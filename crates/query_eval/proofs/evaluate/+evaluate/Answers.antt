@@ -1,4 +1,4 @@
-use Rattle.std.proofs.Common.{◌≤◌, Contains, Option, MatchResult, subst, refl, arith, rules}
+use Rattle.std.proofs.Common.{◌≤◌, ◌++◌, Contains, Option, MatchResult, subst, refl, arith, rules}
 use Rattle.std.proofs.lemmas.Result.{err_from_is_err_and}
 use Rattle.sparql_algebra.specs.declared.expr.Expr.{Expr}
 use Rattle.sparql_algebra.specs.Merged.{IsJoined, IsLeftJoined}
@@ -6,7 +6,8 @@ use Rattle.sparql_algebra.specs.RowSets.{IsOfEither, IsFiltered, RowPasses}
 use Rattle.sparql_algebra.specs.TermSolutions.{id_var}
 use Rattle.sparql_algebra.specs.Evaluation.{IsSolution}
 use Rattle.pattern_join.specs.Meaning.{graph_in}
-use Rattle.query_eval.specs.Parts.{AreTaken, WhyNotTaken}
+use Rattle.query_eval.specs.Parts.{AreTaken, WhyNotTaken, first_rows}
+use Rattle.query_eval.proofs.ListsOfRows.{some_rows, own_rows}
 use Rattle.query_eval.proofs.RowsOfOperators.{join_names, union_names, left_join_names, filter_names}
 use Rattle.query_eval.proofs.Rooms.{first_fails, second_fails, finished, inner_fails, finished_inner}
 use Rattle.query_eval.proofs.Sides.{join_sides, join_named, union_sides, union_named, left_join_sides, left_join_named, filter_side, filter_named}
@@ -50,7 +51,7 @@ evaluate-requires-in-Join g t c κs within =
     let triples = c.requires.triples in
     let part = c.in_ok-left-in-Join.ensures.part in
     let before = c.requires.room in
-    let less = part.less in
+    let less = part.count in
     let room : c.evaluate.new.room ≤ 65536 = omega (arith, before, less) in
     search rules
 
@@ -82,14 +83,16 @@ pub returns-in_ok-right-in-Join-clause-part : goal.returns-in_ok-right-in-Join-c
 returns-in_ok-right-in-Join-clause-part g t c =
     let terms = g.T.TermTable.terms c.args.table.now in
     let graph = graph_in terms c.args.view.now in
-    let l = c.in_ok-left-in-Join.left.rows in
-    let r = c.in_ok-right-in-Join.right.rows in
+    let l = first_rows c.in_ok-left-in-Join.left.items in
+    let r = first_rows c.in_ok-right-in-Join.right.items in
     let left = c.in_ok-left-in-Join.ensures.part in
     let right = c.in_ok-right-in-Join.ensures.part in
-    let names = join_names terms c.requires.once l r left.rising right.rising (IsSolution c.get.result.now graph) (IsSolution c.get-in-Join.result.now graph)
-    left.solutions right.solutions in
+    let low = own_rows terms graph c.get.result.now c.in_ok-left-in-Join.left.items left.rows in
+    let high = own_rows terms graph c.get-in-Join.result.now c.in_ok-right-in-Join.right.items right.rows in
+    let names = join_names terms c.requires.once l r low.rising high.rising (IsSolution c.get.result.now graph) (IsSolution c.get-in-Join.result.now graph)
+    low.solutions high.solutions in
     finished terms c.requires.once graph (join_sides graph c.in-Join.is c.get.ensures c.get-in-Join.ensures) left right (IsJoined id_var (Contains l) (Contains r))
-    (join_named graph terms (IsJoined id_var (Contains l) (Contains r)) c.in-Join.is c.get.ensures c.get-in-Join.ensures names) c.join.new.room c.join.result c.join.ensures
+    (join_named graph terms (IsJoined id_var (Contains l) (Contains r)) c.in-Join.is c.get.ensures c.get-in-Join.ensures names) c.join.new.room c.join.result (λ v. v.items) c.join.ensures
 
 pub evaluate-requires-in-Union : goal.evaluate-requires-in-Union
 evaluate-requires-in-Union g t c κs within =
@@ -129,7 +132,7 @@ evaluate-requires-in-Union-2 g t c κs within =
     let triples = c.requires.triples in
     let part = c.in_ok-left-in-Union.ensures.part in
     let before = c.requires.room in
-    let less = part.less in
+    let less = part.count in
     let room : c.evaluate-in-Union.new.room ≤ 65536 = omega (arith, before, less) in
     search rules
 
@@ -161,14 +164,16 @@ pub returns-in_ok-right-in-Union-clause-part : goal.returns-in_ok-right-in-Union
 returns-in_ok-right-in-Union-clause-part g t c =
     let terms = g.T.TermTable.terms c.args.table.now in
     let graph = graph_in terms c.args.view.now in
-    let l = c.in_ok-left-in-Union.left.rows in
-    let r = c.in_ok-right-in-Union.right.rows in
+    let l = first_rows c.in_ok-left-in-Union.left.items in
+    let r = first_rows c.in_ok-right-in-Union.right.items in
     let left = c.in_ok-left-in-Union.ensures.part in
     let right = c.in_ok-right-in-Union.ensures.part in
-    let names = union_names terms c.requires.once l r left.rising right.rising (IsSolution c.get-in-Union.result.now graph) (IsSolution c.get-in-Union-2.result.now graph)
-    left.solutions right.solutions in
+    let low = own_rows terms graph c.get-in-Union.result.now c.in_ok-left-in-Union.left.items left.rows in
+    let high = own_rows terms graph c.get-in-Union-2.result.now c.in_ok-right-in-Union.right.items right.rows in
+    let names = union_names terms c.requires.once l r low.rising high.rising (IsSolution c.get-in-Union.result.now graph) (IsSolution c.get-in-Union-2.result.now graph)
+    low.solutions high.solutions in
     finished terms c.requires.once graph (union_sides graph c.in-Union.is c.get-in-Union.ensures c.get-in-Union-2.ensures) left right (IsOfEither l r)
-    (union_named graph terms (IsOfEither l r) c.in-Union.is c.get-in-Union.ensures c.get-in-Union-2.ensures names) c.union.new.room c.union.result c.union.ensures
+    (union_named graph terms (IsOfEither l r) c.in-Union.is c.get-in-Union.ensures c.get-in-Union-2.ensures names) c.union.new.room c.union.result (λ v. v.items) c.union.ensures
 
 pub evaluate-requires-in-LeftJoin : goal.evaluate-requires-in-LeftJoin
 evaluate-requires-in-LeftJoin g t c κs within =
@@ -208,7 +213,7 @@ evaluate-requires-in-LeftJoin-2 g t c κs within =
     let triples = c.requires.triples in
     let part = c.in_ok-left-in-LeftJoin.ensures.part in
     let before = c.requires.room in
-    let less = part.less in
+    let less = part.count in
     let room : c.evaluate-in-LeftJoin.new.room ≤ 65536 = omega (arith, before, less) in
     search rules
 
@@ -240,19 +245,21 @@ pub returns-in_ok-right-in-LeftJoin-clause-part : goal.returns-in_ok-right-in-Le
 returns-in_ok-right-in-LeftJoin-clause-part g t c =
     let terms = g.T.TermTable.terms c.args.table.now in
     let graph = graph_in terms c.args.view.now in
-    let l = c.in_ok-left-in-LeftJoin.left.rows in
-    let r = c.in_ok-right-in-LeftJoin.right.rows in
+    let l = first_rows c.in_ok-left-in-LeftJoin.left.items in
+    let r = first_rows c.in_ok-right-in-LeftJoin.right.items in
     let left = c.in_ok-left-in-LeftJoin.ensures.part in
     let right = c.in_ok-right-in-LeftJoin.ensures.part in
+    let low = own_rows terms graph c.get-in-LeftJoin.result.now c.in_ok-left-in-LeftJoin.left.items left.rows in
+    let high = own_rows terms graph c.get-in-LeftJoin-2.result.now c.in_ok-right-in-LeftJoin.right.items right.rows in
     let condition = c.in-LeftJoin.condition in
-    let names = left_join_names terms c.requires.once l r left.rising right.rising (IsSolution c.get-in-LeftJoin.result.now graph) (IsSolution c.get-in-LeftJoin-2.result.now graph)
-    left.solutions right.solutions condition in
+    let names = left_join_names terms c.requires.once l r low.rising high.rising (IsSolution c.get-in-LeftJoin.result.now graph) (IsSolution c.get-in-LeftJoin-2.result.now graph)
+    low.solutions high.solutions condition in
     finished terms c.requires.once graph (left_join_sides graph c.in-LeftJoin.is c.get-in-LeftJoin.ensures c.get-in-LeftJoin-2.ensures) left right
     (IsLeftJoined id_var (Contains l) (Contains r) (RowPasses terms condition))
     (left_join_named graph terms (IsLeftJoined id_var (Contains l) (Contains r) (RowPasses terms condition)) c.in-LeftJoin.is c.get-in-LeftJoin.ensures c.get-in-LeftJoin-2.ensures names)
-    c.left_join.new.room c.left_join.result
+    c.left_join.new.room c.left_join.result (λ v. v.items)
     (subst (λ (k : Option Expr). MatchResult c.left_join.result
-    (λ rows. AreTaken c.evaluate-in-LeftJoin-2.new.room c.left_join.new.room (IsLeftJoined id_var (Contains l) (Contains r) (RowPasses terms k)) rows.rows)
+    (λ lists. AreTaken c.evaluate-in-LeftJoin-2.new.room c.left_join.new.room (IsLeftJoined id_var (Contains l) (Contains r) (RowPasses terms k)) (c.in_ok-left-in-LeftJoin.left.items ++ c.in_ok-right-in-LeftJoin.right.items) lists.items)
     (WhyNotTaken c.evaluate-in-LeftJoin-2.new.room (IsLeftJoined id_var (Contains l) (Contains r) (RowPasses terms k)))) c.as_ref.ensures.value c.left_join.ensures)
 
 pub evaluate-requires-in-Filter : goal.evaluate-requires-in-Filter
@@ -295,8 +302,37 @@ pub returns-in_ok-inner-in-Filter-clause-part : goal.returns-in_ok-inner-in-Filt
 returns-in_ok-inner-in-Filter-clause-part g t c =
     let terms = g.T.TermTable.terms c.args.table.now in
     let graph = graph_in terms c.args.view.now in
-    let i = c.in_ok-inner-in-Filter.inner.rows in
+    let i = first_rows c.in_ok-inner-in-Filter.inner.items in
     let inner = c.in_ok-inner-in-Filter.ensures.part in
-    let names = filter_names terms c.in-Filter.condition i (IsSolution c.get-in-Filter.result.now graph) inner.solutions in
+    let low = own_rows terms graph c.get-in-Filter.result.now c.in_ok-inner-in-Filter.inner.items inner.rows in
+    let names = filter_names terms c.in-Filter.condition i (IsSolution c.get-in-Filter.result.now graph) low.solutions in
     finished_inner terms c.requires.once graph (filter_side graph c.in-Filter.is c.get-in-Filter.ensures) inner (IsFiltered terms c.in-Filter.condition (Contains i))
-    (filter_named graph terms (IsFiltered terms c.in-Filter.condition (Contains i)) c.in-Filter.is c.get-in-Filter.ensures names) c.filter.new.room c.filter.result c.filter.ensures
+    (filter_named graph terms (IsFiltered terms c.in-Filter.condition (Contains i)) c.in-Filter.is c.get-in-Filter.ensures names) c.filter.new.room c.filter.result (λ v. v.items) c.filter.ensures
+
+pub join-requires-clause-left : goal.join-requires-clause-left
+join-requires-clause-left g t c = some_rows (g.T.TermTable.terms c.args.table.now) (graph_in (g.T.TermTable.terms c.args.table.now) c.args.view.now) c.get.result.now
+    c.in_ok-left-in-Join.left.items c.in_ok-left-in-Join.ensures.part.rows
+
+pub join-requires-clause-right : goal.join-requires-clause-right
+join-requires-clause-right g t c = some_rows (g.T.TermTable.terms c.args.table.now) (graph_in (g.T.TermTable.terms c.args.table.now) c.args.view.now) c.get-in-Join.result.now
+    c.in_ok-right-in-Join.right.items c.in_ok-right-in-Join.ensures.part.rows
+
+pub union-requires-clause-left : goal.union-requires-clause-left
+union-requires-clause-left g t c = some_rows (g.T.TermTable.terms c.args.table.now) (graph_in (g.T.TermTable.terms c.args.table.now) c.args.view.now) c.get-in-Union.result.now
+    c.in_ok-left-in-Union.left.items c.in_ok-left-in-Union.ensures.part.rows
+
+pub union-requires-clause-right : goal.union-requires-clause-right
+union-requires-clause-right g t c = some_rows (g.T.TermTable.terms c.args.table.now) (graph_in (g.T.TermTable.terms c.args.table.now) c.args.view.now) c.get-in-Union-2.result.now
+    c.in_ok-right-in-Union.right.items c.in_ok-right-in-Union.ensures.part.rows
+
+pub left_join-requires-clause-left : goal.left_join-requires-clause-left
+left_join-requires-clause-left g t c = some_rows (g.T.TermTable.terms c.args.table.now) (graph_in (g.T.TermTable.terms c.args.table.now) c.args.view.now) c.get-in-LeftJoin.result.now
+    c.in_ok-left-in-LeftJoin.left.items c.in_ok-left-in-LeftJoin.ensures.part.rows
+
+pub left_join-requires-clause-right : goal.left_join-requires-clause-right
+left_join-requires-clause-right g t c = some_rows (g.T.TermTable.terms c.args.table.now) (graph_in (g.T.TermTable.terms c.args.table.now) c.args.view.now) c.get-in-LeftJoin-2.result.now
+    c.in_ok-right-in-LeftJoin.right.items c.in_ok-right-in-LeftJoin.ensures.part.rows
+
+pub filter-requires : goal.filter-requires
+filter-requires g t c = some_rows (g.T.TermTable.terms c.args.table.now) (graph_in (g.T.TermTable.terms c.args.table.now) c.args.view.now) c.get-in-Filter.result.now
+    c.in_ok-inner-in-Filter.inner.items c.in_ok-inner-in-Filter.ensures.part.rows

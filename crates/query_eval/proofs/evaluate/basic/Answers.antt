@@ -1,9 +1,7 @@
-use Rattle.std.proofs.Common.{◌<◌, length, arith, sym, subst}
+use Rattle.std.proofs.Common.{◌∙◌, ◌<◌, [], ◌∷◌, length, arith, ap}
 use Rattle.std.proofs.lemmas.Result.{err_from_is_err_and}
-use Rattle.sparql_algebra.specs.declared.algebra.Algebra.{Bgp}
 use Rattle.sparql_algebra.specs.Solutions.{RowList}
 use Rattle.pattern_join.specs.Meaning.{graph_in}
-use Rattle.query_eval.specs.Parts.{AreEvaluated}
 use Rattle.query_eval.proofs.Rooms.{bgp_evaluated, bgp_over, bgp_fails}
 use Rattle.query_eval.proofs.evaluate.basic.Goals as goal
 
@@ -24,7 +22,8 @@ pub returns-clause-part : goal.returns-clause-part
 returns-clause-part g c =
     let terms = g.T.TermTable.terms c.args.table.now in
     let graph = graph_in terms c.args.view.now in
-    let rows = c.in_ok-rows.rows.rows in
-    subst (λ (l : RowList). AreEvaluated terms graph (Bgp c.args.bgp.now) c.args.room.now c.taken.new.room l.rows) (sym c.taken.ensures.same)
-    (bgp_evaluated terms c.requires.once graph c.args.bgp.now c.args.room.now c.taken.new.room rows c.in_ok-rows.ensures.solutions c.taken.ensures.distinct c.taken.ensures.rising
-    c.taken.ensures.room)
+    let lists = c.in_ok-with_side.field-0.items in
+    let rows = c.in_ok-rows.rows in
+    let alone = c.in_ok-with_side.ensures ∙ ap (λ l. c.taken.result ∷ l) c.new.ensures.items ∙ ap (λ (l : RowList). l ∷ []) c.taken.ensures.same in
+    bgp_evaluated terms c.requires.once graph c.args.bgp.now c.args.room.now c.taken.new.room rows lists c.in_ok-rows.ensures.solutions c.taken.ensures.distinct c.taken.ensures.rising
+    c.taken.ensures.room alone

@@ -1,11 +1,20 @@
-use Rattle.std.proofs.Common.{Contains}
-use Rattle.sparql_algebra.specs.Merged.{IsLeftJoined}
-use Rattle.sparql_algebra.specs.RowSets.{RowPasses}
+use Rattle.std.proofs.Common.{List, ◌++◌, Contains, subst}
 use Rattle.std.specs.Option.{option_copied}
+use Rattle.sparql_algebra.specs.Merged.{IsLeftJoined}
 use Rattle.sparql_algebra.specs.TermSolutions.{id_var}
+use Rattle.sparql_algebra.specs.declared.mapping.Binding.{Binding}
+use Rattle.sparql_algebra.specs.RowSets.{AreExactly, RowPasses}
+use Rattle.query_eval.specs.Parts.{first_rows}
 use Rattle.query_eval.proofs.TakenRows.{taken_rows}
 use Rattle.query_eval.proofs.operators.left_join.Goals as goal
 
 pub returns : goal.returns
-returns g c = taken_rows (IsLeftJoined id_var (Contains c.args.left.now.rows) (Contains c.args.right.now.rows) (RowPasses (g.T.TermTable.terms c.args.table.now) (option_copied c.args.condition))) c.args.room.now c.taken.new.room c.in_ok-rows.rows c.taken.result
-    c.in_ok-rows.ensures.rows c.taken.ensures.same c.taken.ensures.distinct c.taken.ensures.rising c.taken.ensures.room
+returns g c =
+    let passes = RowPasses (g.T.TermTable.terms c.args.table.now) (option_copied c.args.condition) in
+    let left = first_rows c.args.left.items in
+    let right = first_rows c.args.right.items in
+    let rows = c.in_ok-rows.rows in
+    let of_left = subst (λ (l : List (List Binding)). AreExactly (IsLeftJoined id_var (Contains l) (Contains c.first-2.result.now.rows) passes) rows.rows) c.first.ensures c.in_ok-rows.ensures.rows in
+    let of_both = subst (λ (r : List (List Binding)). AreExactly (IsLeftJoined id_var (Contains left) (Contains r) passes) rows.rows) c.first-2.ensures of_left in
+    taken_rows (IsLeftJoined id_var (Contains left) (Contains right) passes) c.args.room.now c.taken.new.room rows c.taken.result (c.args.left.items ++ c.args.right.items) c.in_ok-with_sides.field-0.items
+    of_both c.taken.ensures.same c.in_ok-with_sides.ensures c.taken.ensures.distinct c.taken.ensures.rising c.taken.ensures.room

@@ -1,20 +1,23 @@
-use Rattle.std.proofs.lemmas.Result.{err_from_is_err_and}
+use Rattle.std.proofs.Common.{List, Contains, subst}
+use Rattle.sparql_algebra.specs.declared.mapping.Binding.{Binding}
+use Rattle.sparql_algebra.specs.RowSets.{AreExactly, IsProjectedRow}
 use Rattle.pattern_join.specs.Meaning.{graph_in}
-use Rattle.query_eval.proofs.Projections.{answered, narrow, overwide}
+use Rattle.query_eval.specs.Parts.{first_rows}
+use Rattle.query_eval.proofs.ListsOfRows.{some_rows, own_rows}
+use Rattle.query_eval.proofs.Projections.{answered}
 use Rattle.query_eval.proofs.query.answer.Goals as goal
 
-pub returns-in_err-rows-clause-wide : goal.returns-in_err-rows-clause-wide
-returns-in_err-rows-clause-wide g c =
-    let graph = graph_in (g.T.TermTable.terms c.args.table.now) c.args.view.now in
-    let p = err_from_is_err_and c.from_residual.result c.from_residual.ensures.1 in
-    rw (p.1, p.2) (overwide c.args.query.now.pattern graph c.in_err-rows.field-0.0 c.in_err-rows.ensures.part)
+pub first-requires : goal.first-requires
+first-requires g c =
+    let terms = g.T.TermTable.terms c.args.table.now in
+    some_rows terms (graph_in terms c.args.view.now) c.args.query.now.pattern c.in_ok-lists.lists.items c.in_ok-lists.ensures.rows
 
 pub returns-clause-rows : goal.returns-clause-rows
 returns-clause-rows g c =
     let terms = g.T.TermTable.terms c.args.table.now in
-    answered terms c.args.query.now (graph_in terms c.args.view.now) c.in_ok-rows.rows.rows c.in_ok-project_rows.field-0.rows c.in_ok-rows.ensures.part.solutions c.in_ok-project_rows.ensures
-
-pub returns-clause-narrow : goal.returns-clause-narrow
-returns-clause-narrow g c =
-    let terms = g.T.TermTable.terms c.args.table.now in
-    narrow c.args.query.now.pattern (graph_in terms c.args.view.now) terms c.evaluate.new.room c.in_ok-rows.rows.rows c.in_ok-rows.ensures.part
+    let query = c.args.query.now in
+    let graph = graph_in terms c.args.view.now in
+    let lists = c.in_ok-lists.lists.items in
+    let projections = c.in_ok-project_rows.field-0.rows in
+    answered terms query graph (first_rows lists) projections (own_rows terms graph query.pattern lists c.in_ok-lists.ensures.rows).solutions
+    (subst (λ (rows : List (List Binding)). AreExactly (IsProjectedRow query.columns (Contains rows)) projections) c.first.ensures c.in_ok-project_rows.ensures)
