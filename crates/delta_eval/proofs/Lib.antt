@@ -1,0 +1,7 @@
+mod DifferencesLead
+mod SameRows
+mod PlaceByPlace
+mod GrownTables
+mod StandingLaws
+mod MovedRows
+mod HalfDone

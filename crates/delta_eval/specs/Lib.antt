@@ -1,0 +1,4 @@
+pub mod Changed
+pub mod Wanted
+pub mod Standing
+pub mod Laws
