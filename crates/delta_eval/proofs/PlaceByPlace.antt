@@ -1,5 +1,5 @@
 -- Lists that are related place by place.
-use Rattle.std.proofs.Common.{◌≡◌, ℕ, zero, suc, ◌<◌, List, [], ◌∷◌, ◌++◌, length, take, get_or, set, refl, sym, ap, subst, arith}
+use Rattle.std.proofs.Common.{◌≡◌, ℕ, zero, suc, List, [], ◌∷◌, ◌++◌, length, get_or, set, refl, sym, ap, subst, arith}
 use Rattle.std.specs.List.{AllZip}
 use Rattle.delta_eval.specs.Changed.{AllInThrees}
 
@@ -144,8 +144,7 @@ module _ {X : Type 0} where
   set_between (a ∷ low) x high zero new e = absurd (omega (arith, e))
   set_between (a ∷ low) x high (suc n) new e = ap (λ l. a ∷ l) (set_between low x high n new (omega (arith, e)))
 
-  -- the first items of a list in which the last of them was changed
-  pub take_set : (xs : List X) (n : ℕ) (new : X) → n < length xs → take (suc n) (set xs n new) ≡ take n xs ++ new ∷ []
-  take_set [] n new h = absurd (omega (arith, h))
-  take_set (x ∷ xs) zero new h = refl
-  take_set (x ∷ xs) (suc n) new h = ap (λ l. x ∷ l) (take_set xs n new (omega (arith, h)))
+  -- a list of length 0 has nothing
+  pub nothing : (xs : List X) → length xs ≡ 0 → xs ≡ []
+  nothing [] e = refl
+  nothing (x ∷ xs) e = absurd (omega (arith, e))

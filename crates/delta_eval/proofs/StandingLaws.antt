@@ -1,11 +1,11 @@
 -- The laws of standing queries, by what is wanted.
-use Rattle.std.proofs.Common.{◌≡◌, ℕ, ◌≤◌, List, Contains, Option, refl, sym, ap, subst}
+use Rattle.std.proofs.Common.{◌≡◌, ◌∙◌, ℕ, ◌≤◌, List, length, Contains, Option, refl, sym, ap, subst}
 use Rattle.std.specs.List.{AllZip}
 use Rattle.m3_terms.specs.TermTable.{NamesOnce}
 use Rattle.m3_terms.specs.declared.term.Term.{Term}
 use Rattle.sparql_algebra.specs.RowSets.{AreExactly}
 use Rattle.sparql_algebra.specs.Solutions.{RowList}
-use Rattle.sparql_algebra.specs.Width.{parts}
+use Rattle.sparql_algebra.specs.Width.{parts as parts_of}
 use Rattle.sparql_algebra.specs.Listed.{width_of}
 use Rattle.triple_index.specs.declared.triple.IdTriple.{IdTriple}
 use Rattle.pattern_join.specs.Meaning.{graph_in, AreMeant}
@@ -19,7 +19,7 @@ use Rattle.delta_eval.specs.Standing.{Kept, Changes, AreOfQuery, AreOf, StandsOv
 use Rattle.delta_eval.specs.Wanted.{IsWanted, matching_rows, wanted_width}
 use Rattle.delta_eval.proofs.DifferencesLead.{difference_of, difference_leads, leads_once, change_kept}
 use Rattle.delta_eval.proofs.GrownTables.{same_graph, rows_grown, answer_grown}
-use Rattle.delta_eval.proofs.PlaceByPlace.{zip_weaker, zip_through, zip_across, zip_none, threes_zip, threes_carry, threes_none}
+use Rattle.delta_eval.proofs.PlaceByPlace.{zip_long, zip_weaker, zip_through, zip_across, zip_none, threes_zip, threes_carry, threes_none}
 use Rattle.delta_eval.proofs.SameRows.{HaveSame, equal_same, exactly_same, rows_same, answer_same, answer_exact}
 
 -- ---- answers
@@ -30,6 +30,14 @@ pub wanted_exact : (terms : ℕ → Option Term) → NamesOnce terms → (triple
 wanted_exact terms once triples (Templates templates) parts answer h = h.answer_rows
 wanted_exact terms once triples (Select query) parts answer h = answer_exact terms (graph_in terms triples) once query answer.rows h.answer_rows
 
+-- there are as many parts over one graph as over another
+pub as_many_parts : (terms : ℕ → Option Term) (triples others : List IdTriple) (wanted : Wanted) (parts lists : List RowList) (answer other : RowList)
+    → AreOf terms triples wanted parts answer → AreOf terms others wanted lists other → length parts ≡ length lists
+as_many_parts terms triples others (Templates templates) parts lists answer other h k = ap length (h.no_parts ∙ sym k.no_parts)
+as_many_parts terms triples others (Select query) parts lists answer other h k =
+    sym (zip_long (AreRowsOf terms (graph_in terms triples)) (parts_of query.pattern) parts h.part_rows)
+    ∙ zip_long (AreRowsOf terms (graph_in terms others)) (parts_of query.pattern) lists k.part_rows
+
 -- ---- tables that grow
 
 module _ (old new : ℕ → Option Term) (grown : HasAllOf old new) (triples : List IdTriple) (meant : AreMeant old triples) where
@@ -39,7 +47,7 @@ module _ (old new : ℕ → Option Term) (grown : HasAllOf old new) (triples : L
       let graph = graph_in old triples in
       subst (λ g. AreOfQuery new g query lists answer) (same_graph old new grown triples meant) (record {
         valid = h.valid;
-        part_rows = zip_weaker (AreRowsOf old graph) (AreRowsOf new graph) (rows_grown old new grown graph) (parts query.pattern) lists h.part_rows;
+        part_rows = zip_weaker (AreRowsOf old graph) (AreRowsOf new graph) (rows_grown old new grown graph) (parts_of query.pattern) lists h.part_rows;
         answer_rows = answer_grown old new grown graph query answer.rows h.answer_rows;
       })
 
@@ -68,7 +76,7 @@ module _ (terms : ℕ → Option Term) (triples : List IdTriple) where
       record {
         valid = h.valid;
         part_rows = zip_through (AreRowsOf terms graph) HasSameRows (AreRowsOf terms graph)
-            (λ pattern one two r k. rows_same terms graph pattern one two (equal_same one.rows two.rows (sym k)) r) (parts query.pattern) old new h.part_rows s;
+            (λ pattern one two r k. rows_same terms graph pattern one two (equal_same one.rows two.rows (sym k)) r) (parts_of query.pattern) old new h.part_rows s;
         answer_rows = answer_same terms graph query answer.rows other.rows (equal_same answer.rows other.rows (sym e)) h.answer_rows;
       }
 
@@ -93,7 +101,7 @@ module _ (terms : ℕ → Option Term) (triples : List IdTriple) where
           valid = h.valid;
           part_rows = threes_carry IsDifference LeadsTo (AreRowsOf terms graph) (AreRowsOf terms graph)
               (λ o c f n pattern d k r. rows_same terms graph pattern f n (leads_once o c f n (difference_leads o c f d) k) r)
-              olds changes fresh lists (parts query.pattern) apart ls h.part_rows;
+              olds changes fresh lists (parts_of query.pattern) apart ls h.part_rows;
           answer_rows = answer_same terms graph query new.rows answer.rows (leads_once old change new answer (difference_leads old change new differ) l) h.answer_rows;
         }
 
