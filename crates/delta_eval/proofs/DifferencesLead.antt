@@ -8,7 +8,7 @@ use Rattle.sparql_algebra.specs.RowSets.{AreExactly}
 use Rattle.sparql_algebra.specs.Solutions.{RowList, solution_eq}
 use Rattle.sparql_algebra.specs.SolutionLaws.{solution_exact}
 use Rattle.delta_eval.specs.declared.changed.Changed.{Changed}
-use Rattle.delta_eval.specs.Changed.{IsOfOnly, LeadsTo, IsChangeOf, IsDifference, HasSameRows}
+use Rattle.delta_eval.specs.Changed.{IsOfOnly, IsThereAfter, LeadsTo, IsChangeOf, IsDifference, HasSameRows}
 
 holds_or_not : {P : Type 0} (b : Bool) → Decides b P → P ⊎ (P → ⊥)
 holds_or_not true d = inl (d.0 refl)
@@ -56,3 +56,11 @@ change_kept old change new h e = record {
   obsolete_there = λ row gone. subst (λ l. Contains l row) (sym e) (h.obsolete_there row gone);
   added_new = λ row come there. h.added_new row come (subst (λ l. Contains l row) e there);
 }
+
+-- a row that a change adds is not obsolete
+pub added_or_obsolete : (old : RowList) (change : Changed) → IsChangeOf old change → (row : List Binding) → Contains change.added.rows row → Contains change.obsolete.rows row → ⊥
+added_or_obsolete old change h row come gone = h.added_new row come (h.obsolete_there row gone)
+
+-- a change leads from a list to where it leads from one with the same rows
+pub leads_before : (old kept : RowList) (change : Changed) (new : RowList) → HasSameRows old kept → LeadsTo kept change new → LeadsTo old change new
+leads_before old kept change new e l = subst (λ rows. AreExactly (IsThereAfter rows change) new.rows) e l

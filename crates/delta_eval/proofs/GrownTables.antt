@@ -17,7 +17,7 @@ use Rattle.triple_index.specs.declared.triple.IdTriple.{IdTriple}
 use Rattle.pattern_join.specs.Bgp.{StandsFor}
 use Rattle.pattern_join.specs.Meaning.{triple_in, graph_in, AreMeant}
 use Rattle.query_eval.specs.Answered.{AreAnswer}
-use Rattle.query_eval.specs.Parts.{AreRowsOf}
+use Rattle.query_eval.specs.PartRows.{AreRowsOf}
 use Rattle.delta_eval.specs.Laws.{HasAllOf}
 
 -- three numbers that mean a triple have terms

@@ -89,6 +89,16 @@ module _ {X Y Z : Type 0} where
     threes_carry (x ∷ xs) (y ∷ ys) (z ∷ zs) (v ∷ vs) [] h k s = absurd s
     threes_carry (x ∷ xs) (y ∷ ys) (z ∷ zs) (v ∷ vs) (p ∷ ps) h k s = (f x y z v p h.0 k.0 s.0, threes_carry xs ys zs vs ps h.1 k.1 s.1)
 
+  -- another first list that is related to the first one
+  pub threes_before : {V : Type 0} (S : V → X → Type 0) (R : X → Y → Z → Type 0) (Q : V → Y → Z → Type 0) → ((v : V) (x : X) (y : Y) (z : Z) → S v x → R x y z → Q v y z)
+      → (vs : List V) (xs : List X) (ys : List Y) (zs : List Z) → AllZip S vs xs → AllInThrees R xs ys zs → AllInThrees Q vs ys zs
+  threes_before S R Q f [] [] ys zs s h = h
+  threes_before S R Q f [] (x ∷ xs) ys zs s h = absurd s
+  threes_before S R Q f (v ∷ vs) [] ys zs s h = absurd s
+  threes_before S R Q f (v ∷ vs) (x ∷ xs) [] zs s h = absurd h
+  threes_before S R Q f (v ∷ vs) (x ∷ xs) (y ∷ ys) [] s h = absurd h
+  threes_before S R Q f (v ∷ vs) (x ∷ xs) (y ∷ ys) (z ∷ zs) s h = (f v x y z s.0 h.0, threes_before S R Q f vs xs ys zs s.1 h.1)
+
   -- where there is nothing in the one, there is nothing in the other
   pub threes_none : {V : Type 0} (R : X → Y → Z → Type 0) (Q : X → Y → V → Type 0) (xs : List X) (ys : List Y) (zs : List Z) (vs : List V)
       → AllInThrees R xs ys zs → AllInThrees Q xs ys vs → zs ≡ [] → vs ≡ []

@@ -15,7 +15,7 @@ use Rattle.sparql_algebra.specs.TermSolutions.{solution_in}
 use Rattle.sparql_algebra.proofs.ListMembers.{all_in, in_all_of}
 use Rattle.pattern_join.specs.Bgp.{StandsFor}
 use Rattle.query_eval.specs.Answered.{AreAnswer}
-use Rattle.query_eval.specs.Parts.{AreRowsOf}
+use Rattle.query_eval.specs.PartRows.{AreRowsOf}
 use Rattle.query_eval.proofs.Counts.{stands_once}
 
 -- two lists have the same rows, in any order

@@ -9,7 +9,7 @@ use Rattle.sparql_algebra.specs.Width.{parts as parts_of}
 use Rattle.sparql_algebra.specs.Listed.{width_of}
 use Rattle.triple_index.specs.declared.triple.IdTriple.{IdTriple}
 use Rattle.pattern_join.specs.Meaning.{graph_in, AreMeant}
-use Rattle.query_eval.specs.Parts.{AreRowsOf}
+use Rattle.query_eval.specs.PartRows.{AreRowsOf}
 use Rattle.delta_eval.specs.declared.changed.Changed.{Changed}
 use Rattle.delta_eval.specs.declared.wanted.Wanted.{Wanted}
 use Rattle.delta_eval.specs.declared.wanted.Wanted.TheVariants.{Templates, Select}
@@ -17,9 +17,9 @@ use Rattle.delta_eval.specs.Changed.{AllInThrees, LeadsTo, IsChangeOf, IsDiffere
 use Rattle.delta_eval.specs.Laws.{HasAllOf}
 use Rattle.delta_eval.specs.Standing.{Kept, Changes, AreOfQuery, AreOf, StandsOver, IsStepOf, KeepsRows, IsAfter, StepsTo}
 use Rattle.delta_eval.specs.Wanted.{IsWanted, matching_rows, wanted_width}
-use Rattle.delta_eval.proofs.DifferencesLead.{difference_of, difference_leads, leads_once, change_kept}
+use Rattle.delta_eval.proofs.DifferencesLead.{difference_of, difference_leads, leads_once, leads_before, change_kept}
 use Rattle.delta_eval.proofs.GrownTables.{same_graph, rows_grown, answer_grown}
-use Rattle.delta_eval.proofs.PlaceByPlace.{zip_long, zip_weaker, zip_through, zip_across, zip_none, threes_zip, threes_carry, threes_none}
+use Rattle.delta_eval.proofs.PlaceByPlace.{zip_long, zip_weaker, zip_through, zip_across, zip_none, threes_zip, threes_before, threes_carry, threes_none}
 use Rattle.delta_eval.proofs.SameRows.{HaveSame, equal_same, exactly_same, rows_same, answer_same, answer_exact}
 
 -- ---- answers
@@ -128,4 +128,12 @@ pub still_step : (old new : Kept) (step : Changes) → KeepsRows old new → IsS
 still_step old new step k s = record {
   parts = zip_across IsChangeOf HasSameRows IsChangeOf change_kept old.parts step.parts new.parts s.parts k.parts;
   answer = change_kept old.answer step.answer new.answer s.answer k.answer;
+}
+
+-- what it makes of the other, it makes of the one
+pub steps_outlast : (old kept : Kept) (step : Changes) (new : Kept) → KeepsRows old kept → IsAfter kept step new → IsAfter old step new
+steps_outlast old kept step new k is = record {
+  wanted = is.wanted ∙ k.wanted;
+  parts = threes_before HasSameRows LeadsTo LeadsTo leads_before old.parts kept.parts step.parts new.parts k.parts is.parts;
+  answer = leads_before old.answer kept.answer step.answer new.answer k.answer is.answer;
 }

@@ -1,8 +1,9 @@
 -- Changes of lists of distinct rows: the rows that are added, and those that are obsolete.
-use Rattle.std.specs.Prelude.{◌≡◌, ◌⊎◌, ◌≤◌, List, [], ◌∷◌, length, Contains, refl}
+use Rattle.std.specs.Prelude.{◌≡◌, ◌⊎◌, ◌+◌, ◌≤◌, List, [], ◌∷◌, length, Contains, refl}
+use Rattle.std.proofs.Common.{inl, lit<, lit≤}
 use Rattle.sparql_algebra.specs.declared.mapping.Binding.{Binding}
 use Rattle.sparql_algebra.specs.RowSets.{AreExactly}
-use Rattle.sparql_algebra.specs.Solutions.{RowList, binding}
+use Rattle.sparql_algebra.specs.Solutions.{RowList}
 use Rattle.delta_eval.specs.declared.changed.Changed.{Changed}
 
 -- items of three lists are related place by place, and the lists are as long
@@ -41,3 +42,18 @@ HasRoomFor list change = length change.added.rows ≤ list.room
 -- a list has the same rows as before
 abbrev pub HasSameRows : RowList → RowList → Type 0
 HasSameRows old new = new.rows ≡ old.rows
+
+-- 1 and 3 make 4, and 2 and 4 make 6
+example_threes : AllInThrees (λ x y z. x + y ≡ z) (1 ∷ 2 ∷ []) (3 ∷ 4 ∷ []) (4 ∷ 6 ∷ [])
+example_threes = (refl, (refl, (refl, refl)))
+
+-- the empty row is added to a list that has room for one row
+abbrev one_added : Changed
+one_added = record { added = record { rows = [] ∷ []; room = 0 }; obsolete = record { rows = []; room = 0 } }
+
+example_room : HasRoomFor (record { rows = []; room = 1 }) one_added
+example_room = lit≤ tt
+
+-- it is there after the change
+example_added : IsThereAfter [] one_added []
+example_added = inl (0, lit< tt, refl)

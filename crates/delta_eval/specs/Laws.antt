@@ -9,7 +9,7 @@ use Rattle.triple_index.specs.declared.triple.IdTriple.{IdTriple}
 use Rattle.pattern_join.specs.Meaning.{AreMeant}
 use Rattle.delta_eval.specs.declared.changed.Changed.{Changed}
 use Rattle.delta_eval.specs.Changed.{LeadsTo, IsChangeOf, IsDifference}
-use Rattle.delta_eval.specs.Standing.{Kept, Changes, StandsOver, KeepsRows}
+use Rattle.delta_eval.specs.Standing.{Kept, Changes, StandsOver, KeepsRows, IsAfter}
 use Rattle.delta_eval.specs.Wanted.{IsWanted}
 
 -- each number that has a term by the one table has it by the other
@@ -25,6 +25,10 @@ TablesMayGrow = (old new : ℕ → Option Term) → HasAllOf old new → (triple
 abbrev pub RoomMayChange : Type 0
 RoomMayChange = (terms : ℕ → Option Term) (triples : List IdTriple) (old new : Kept) → KeepsRows old new → StandsOver terms triples old → StandsOver terms triples new
 
+-- what a step makes of a standing query that keeps the rows of another, it makes of that one
+abbrev pub StepsOutlastRoom : Type 0
+StepsOutlastRoom = (old kept : Kept) (step : Changes) (new : Kept) → KeepsRows old kept → IsAfter kept step new → IsAfter old step new
+
 -- where no two numbers have one term, the answer of what stands over triples is exactly the rows that are wanted
 abbrev pub AnswersAreWanted : Type 0
 AnswersAreWanted = (terms : ℕ → Option Term) → NamesOnce terms → (triples : List IdTriple) (standing : Kept) → StandsOver terms triples standing
@@ -33,6 +37,10 @@ AnswersAreWanted = (terms : ℕ → Option Term) → NamesOnce terms → (triple
 -- the difference of two lists is a change of the one, and leads to the other
 abbrev pub DifferencesLead : Type 0
 DifferencesLead = (old : RowList) (change : Changed) (new : RowList) → IsDifference old change new → IsChangeOf old change × LeadsTo old change new
+
+-- no row is both added by a change and obsolete
+abbrev pub ChangesAreApart : Type 0
+ChangesAreApart = (old : RowList) (change : Changed) → IsChangeOf old change → (row : List Binding) → Contains change.added.rows row → Contains change.obsolete.rows row → ⊥
 
 -- a change leads to one set of rows
 abbrev pub ChangesLeadOnce : Type 0

@@ -1,5 +1,6 @@
 -- Standing queries: what is kept of them, when they stand over a graph, and what a step makes of them.
-use Rattle.std.specs.Prelude.{◌≡◌, ℕ, ◌≤◌, List, [], Contains, Option}
+use Rattle.std.specs.Prelude.{◌≡◌, ℕ, ◌≤◌, List, [], Contains, Option, None, refl}
+use Rattle.std.proofs.Common.{lit≤}
 use Rattle.std.specs.List.{AllZip}
 use Rattle.m3_terms.specs.declared.term.Term.{Term}
 use Rattle.m3_terms.specs.declared.triple.Triple.{Triple}
@@ -11,7 +12,7 @@ use Rattle.triple_index.specs.declared.triple.IdTriple.{IdTriple}
 use Rattle.triple_index.specs.declared.triple.IdPattern.{IdPattern}
 use Rattle.pattern_join.specs.Meaning.{graph_in}
 use Rattle.query_eval.specs.Answered.{AreAnswer}
-use Rattle.query_eval.specs.Parts.{ArePartRows}
+use Rattle.query_eval.specs.PartRows.{ArePartRows}
 use Rattle.delta_eval.specs.declared.changed.Changed.{Changed}
 use Rattle.delta_eval.specs.declared.wanted.Wanted.{Wanted}
 use Rattle.delta_eval.specs.declared.wanted.Wanted.TheVariants.{Templates, Select}
@@ -75,3 +76,7 @@ pub record IsAfter (old : Kept) (step : Changes) (new : Kept) : Type 0 where
 -- a step leads to some triples: whatever it makes of a standing query stands over them
 abbrev pub StepsTo : (ℕ → Option Term) → List IdTriple → Kept → Changes → Type 0
 StepsTo terms triples standing step = (after : Kept) → IsAfter standing step after → StandsOver terms triples after
+
+-- where nothing is wanted, nothing stands over the empty graph
+example_nothing : StandsOver (λ n. None) [] (record { wanted = Templates []; parts = []; answer = record { rows = []; room = 0 } })
+example_nothing = record { rows = record { no_parts = refl; answer_rows = λ row. (λ c. c, λ c. c) }; narrow = lit≤ tt }

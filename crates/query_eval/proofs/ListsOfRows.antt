@@ -8,7 +8,8 @@ use Rattle.sparql_algebra.specs.declared.algebra.Algebra.{Algebra, more_of-Algeb
 use Rattle.sparql_algebra.specs.declared.mapping.Binding.{Binding}
 use Rattle.sparql_algebra.specs.Solutions.{RowList}
 use Rattle.sparql_algebra.specs.Width.{parts}
-use Rattle.query_eval.specs.Parts.{AreRowsOf, ArePartRows, first_rows, row_count}
+use Rattle.query_eval.specs.PartRows.{AreRowsOf, ArePartRows, row_count}
+use Rattle.query_eval.specs.Parts.{first_rows}
 
 -- the first of some lists has the first rows
 pub first_is : (lists : List RowList) (own : RowList) → 0 < length lists → own ≡ get_or lists 0 own → own.rows ≡ first_rows lists

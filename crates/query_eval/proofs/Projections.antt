@@ -16,7 +16,8 @@ use Rattle.pattern_join.specs.declared.fault.EvalFault.TheVariants.{TooWide, NoM
 use Rattle.pattern_join.specs.Answers.{IsOverwide}
 use Rattle.pattern_join.specs.Bgp.{AreSolutions}
 use Rattle.query_eval.specs.Answered.{AreAnswer}
-use Rattle.query_eval.specs.Parts.{AreEvaluated, WhyNotEvaluated, row_count}
+use Rattle.query_eval.specs.PartRows.{row_count}
+use Rattle.query_eval.specs.Parts.{AreEvaluated, WhyNotEvaluated}
 
 module _ (terms : ℕ → Option Term) (query : Query) (graph : List Triple) where
   -- the projections of the solutions are the answer

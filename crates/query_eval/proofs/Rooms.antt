@@ -18,7 +18,8 @@ use Rattle.sparql_algebra.proofs.Gathered.{more_than}
 use Rattle.pattern_join.specs.declared.fault.EvalFault.{EvalFault}
 use Rattle.pattern_join.specs.declared.fault.EvalFault.TheVariants.{TooWide, NoMemory}
 use Rattle.pattern_join.specs.Bgp.{StandsFor, AreSolutions, WhyNoRows}
-use Rattle.query_eval.specs.Parts.{AreTaken, WhyNotTaken, AreRowsOf, AreEvaluated, WhyNotEvaluated, row_count}
+use Rattle.query_eval.specs.PartRows.{AreRowsOf, row_count}
+use Rattle.query_eval.specs.Parts.{AreTaken, WhyNotTaken, AreEvaluated, WhyNotEvaluated}
 use Rattle.query_eval.proofs.Counts.{as_many, too_many}
 use Rattle.query_eval.proofs.ListsOfRows.{zip_both, count_first, count_both}
 use Rattle.query_eval.proofs.RowsOfOperators.{AreNames}

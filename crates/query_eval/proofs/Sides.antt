@@ -20,7 +20,7 @@ use Rattle.sparql_algebra.specs.Width.{parts, HasCount, HaveCounts, HasWidth}
 use Rattle.pattern_join.specs.Scan.{scan}
 use Rattle.query_eval.proofs.RowsOfOperators.{AreNames}
 use Rattle.query_eval.specs.Reads.{bgps, reads}
-use Rattle.query_eval.specs.Parts.{HasFewNames}
+use Rattle.query_eval.specs.PartRows.{HasFewNames}
 
 -- a width is that of a part with two sides: its own count, and the widths of both
 pub record IsWidthOfSides (graph : List Triple) (self left right : Algebra) (width : ℕ) : Type 0 where

@@ -1,3 +1,4 @@
 pub mod Answered
 pub mod Reads
+pub mod PartRows
 pub mod Parts

@@ -5,7 +5,8 @@ ghost use Rattle.m3_terms.specs.TermTable.{NamesOnce};
 ghost use Rattle.sparql_algebra.specs.Valid.{HasNamedTriple};
 ghost use Rattle.pattern_join.specs.Meaning.{graph_in, AreMeant};
 ghost use Rattle.pattern_join.specs.Scan.{scan};
-ghost use Rattle.query_eval.specs.Parts.{AreEvaluated, HasFewNames, WhyNotEvaluated};
+ghost use Rattle.query_eval.specs.PartRows.{HasFewNames};
+ghost use Rattle.query_eval.specs.Parts.{AreEvaluated, WhyNotEvaluated};
 ghost use Rattle.query_eval.specs.Reads.{reads};
 
 use crate::lists::with_side;

@@ -5,7 +5,7 @@ ghost use Rattle.sparql_algebra.specs.Valid.{IsValid};
 ghost use Rattle.pattern_join.specs.Answers.{IsOverwide};
 ghost use Rattle.pattern_join.specs.Meaning.{graph_in, AreMeant};
 ghost use Rattle.query_eval.specs.Answered.{AreAnswer};
-ghost use Rattle.query_eval.specs.Parts.{ArePartRows, HasFewNames, row_count};
+ghost use Rattle.query_eval.specs.PartRows.{ArePartRows, HasFewNames, row_count};
 ghost use Rattle.query_eval.specs.Reads.{reads};
 
 use crate::evaluate::evaluate;
