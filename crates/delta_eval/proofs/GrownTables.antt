@@ -1,5 +1,5 @@
 -- Rows mean the same by a table that has all terms of another, where they are meant by that.
-use Rattle.std.proofs.Common.{◌≡◌, ◌∙◌, ℕ, List, [], ◌∷◌, Contains, Option, None, Some, IsSome, refl, sym, subst}
+use Rattle.std.proofs.Common.{◌≡◌, ◌∙◌, ℕ, List, [], ◌∷◌, Option, None, Some, IsSome, refl, sym, subst}
 use Rattle.std.specs.List.{cons_option}
 use Rattle.std.specs.Option.{option_map}
 use Rattle.m3_terms.specs.InsertedLaws.{head_in, tail_in}

@@ -1,14 +1,14 @@
 -- Rows that are taken out of a list one by one, and rows that are moved into one.
-use Rattle.std.proofs.Common.{◌≡◌, ◌∙◌, ◌↔◌, ◌⊎◌, inl, inr, ℕ, zero, suc, ◌+◌, ◌<◌, ◌≤◌, false, List, [], ◌∷◌, ◌++◌, length, take, get_or, Contains, refl, sym, ap, subst, arith, true≢false}
+use Rattle.std.proofs.Common.{◌≡◌, ◌∙◌, ◌↔◌, ◌⊎◌, inl, inr, ℕ, zero, suc, ◌+◌, ◌<◌, false, List, [], ◌∷◌, ◌++◌, length, take, get_or, Contains, sym, subst, arith, true≢false}
 use Rattle.std.proofs.lemmas.List.Elements.{Contains-push, Contains-push_cases, Contains-append_left}
 use Rattle.std.proofs.lemmas.Map.Keys.{IsDistinct-head, IsDistinct-tail}
-use Rattle.std.specs.List.{AllByRecursion, IsDistinct}
+use Rattle.std.specs.List.{IsDistinct}
 use Rattle.m3_terms.specs.InsertedLaws.{cons_cases}
 use Rattle.sparql_algebra.specs.declared.mapping.Binding.{Binding}
 use Rattle.sparql_algebra.specs.RowSets.{AreExactly, IsOfEither}
 use Rattle.sparql_algebra.specs.Solutions.{solution_eq, IsWithoutRow}
 use Rattle.sparql_algebra.specs.SolutionLaws.{solution_exact}
-use Rattle.sparql_algebra.proofs.Gathered.{none_in, item_in, in_all, taken}
+use Rattle.sparql_algebra.proofs.Gathered.{none_in, item_in, taken}
 use Rattle.sparql_algebra.proofs.ListMembers.{in_all_of}
 use Rattle.delta_eval.specs.Changed.{IsOfOnly}
 

@@ -1,5 +1,5 @@
 -- Lists that are related place by place.
-use Rattle.std.proofs.Common.{◌≡◌, ℕ, zero, suc, List, [], ◌∷◌, ◌++◌, length, get_or, set, refl, sym, ap, subst, arith}
+use Rattle.std.proofs.Common.{◌≡◌, ◌∙◌, ℕ, zero, suc, ◌+◌, ◌<◌, List, [], ◌∷◌, ◌++◌, length, drop, get_or, set, refl, sym, ap, subst, arith}
 use Rattle.std.specs.List.{AllZip}
 use Rattle.delta_eval.specs.Changed.{AllInThrees}
 
@@ -158,3 +158,39 @@ module _ {X : Type 0} where
   pub nothing : (xs : List X) → length xs ≡ 0 → xs ≡ []
   nothing [] e = refl
   nothing (x ∷ xs) e = absurd (omega (arith, e))
+
+  -- the items behind one that is changed
+  drop_set : (xs : List X) (n : ℕ) (new : X) → drop (suc n) (set xs n new) ≡ drop (suc n) xs
+  drop_set [] n new = refl
+  drop_set (x ∷ xs) zero new = refl
+  drop_set (x ∷ xs) (suc n) new = drop_set xs n new
+
+  drop_more : (xs : List X) (n : ℕ) → drop (suc n) xs ≡ drop 1 (drop n xs)
+  drop_more [] zero = refl
+  drop_more [] (suc n) = refl
+  drop_more (x ∷ xs) zero = refl
+  drop_more (x ∷ xs) (suc n) = drop_more xs n
+
+  -- a list that is another from some item on still is from the next one on, where that item is changed
+  pub rest_set : (xs ys : List X) (n : ℕ) (new : X) → drop n xs ≡ drop n ys → drop (n + 1) (set xs n new) ≡ drop (n + 1) ys
+  rest_set xs ys n new e =
+      let next : n + 1 ≡ suc n = omega arith in
+      ap (λ m. drop m (set xs n new)) next ∙ drop_set xs n new ∙ drop_more xs n ∙ ap (drop 1) e ∙ sym (drop_more ys n) ∙ sym (ap (λ m. drop m ys) next)
+
+  get_first : (xs : List X) (n : ℕ) (d : X) → get_or xs n d ≡ get_or (drop n xs) 0 d
+  get_first [] zero d = refl
+  get_first [] (suc n) d = refl
+  get_first (x ∷ xs) zero d = refl
+  get_first (x ∷ xs) (suc n) d = get_first xs n d
+
+  -- and has the same item there
+  pub rest_get : (xs ys : List X) (n : ℕ) (d : X) → drop n xs ≡ drop n ys → get_or xs n d ≡ get_or ys n d
+  rest_get xs ys n d e = get_first xs n d ∙ ap (λ l. get_or l 0 d) e ∙ sym (get_first ys n d)
+
+-- the items in one place are related
+pub zip_at : {X Y : Type 0} (R : X → Y → Type 0) (xs : List X) (ys : List Y) (n : ℕ) (x : X) (y : Y) → n < length ys → x ≡ get_or xs n x → y ≡ get_or ys n y → AllZip R xs ys → R x y
+zip_at R [] [] n x y within e f h = absurd (omega (arith, within))
+zip_at R [] (b ∷ ys) n x y within e f h = absurd h
+zip_at R (a ∷ xs) [] n x y within e f h = absurd h
+zip_at R (a ∷ xs) (b ∷ ys) zero x y within e f h = subst (λ p. R p y) (sym e) (subst (R a) (sym f) h.0)
+zip_at R (a ∷ xs) (b ∷ ys) (suc n) x y within e f h = zip_at R xs ys n x y (omega (arith, within)) e f h.1

@@ -20,7 +20,7 @@ use Rattle.delta_eval.specs.Wanted.{IsWanted, matching_rows, wanted_width}
 use Rattle.delta_eval.proofs.DifferencesLead.{difference_of, difference_leads, leads_once, leads_before, change_kept}
 use Rattle.delta_eval.proofs.GrownTables.{same_graph, rows_grown, answer_grown}
 use Rattle.delta_eval.proofs.PlaceByPlace.{zip_long, zip_weaker, zip_through, zip_across, zip_none, threes_zip, threes_before, threes_carry, threes_none}
-use Rattle.delta_eval.proofs.SameRows.{HaveSame, equal_same, exactly_same, rows_same, answer_same, answer_exact}
+use Rattle.delta_eval.proofs.SameRows.{equal_same, exactly_same, rows_same, answer_same, answer_exact}
 
 -- ---- answers
 

@@ -1,5 +1,5 @@
 //! Changes of lists of rows, place by place.
-ghost use Rattle.std.specs.Prelude.{◌≡◌, length, IfOk, OnOk};
+ghost use Rattle.std.specs.Prelude.{◌≡◌, length, IfOk, IsOk, OnOk};
 ghost use Rattle.std.specs.List.{AllZip};
 ghost use Rattle.delta_eval.specs.Changed.{AllInThrees, IsChangeOf, IsDifference, HasRoomFor, HasSameRows, LeadsTo};
 
@@ -30,6 +30,7 @@ pub(crate) fn reserve_all(lists: &mut Vec<IdRows>, changes: &[Changed]) -> Resul
     requires { length lists.old.items ≡ length changes.now }
     ensures rows { AllZip HasSameRows lists.old.items lists.new.items }
     ensures room { OnOk result (AllZip HasRoomFor lists.new.items changes.now) }
+    ensures succeeds { AllZip HasRoomFor lists.old.items changes.now → IsOk result }
 {
     for (at, change) in changes.iter().enumerate() {
         lists[at].reserve(change.added.len())?;

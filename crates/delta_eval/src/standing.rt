@@ -33,7 +33,7 @@ impl Model for Standing {
 }
 
 impl Standing {
-    ghost use Rattle.std.specs.Prelude.{◌≡◌, ◌≤◌, ◌+◌, IfOk, IfErr, OnOk};
+    ghost use Rattle.std.specs.Prelude.{◌≡◌, ◌≤◌, ◌+◌, IfOk, IfErr, IsOk, OnOk};
     ghost use Rattle.sparql_algebra.specs.RowSets.{AreExactly};
     ghost use Rattle.triple_index.specs.Changes.{IsNet, changed};
     ghost use Rattle.pattern_join.specs.Answers.{IsOverwide};
@@ -108,12 +108,13 @@ impl Standing {
         })
     }
 
-    /// Makes room for a step in each of its lists. After `NoMemory` the rows are the same.
+    /// Makes room for a step in each list. After `NoMemory` the rows are the same. Where there is room it takes no memory.
     pub fn reserve(&mut self, step: &Step) -> Result<(), NoMemory>
         requires { IsStepOf self.old step.now }
         ensures rows { KeepsRows self.old self.new }
         ensures step { IsStepOf self.new step.now }
         ensures room { OnOk result (HasRoom self.new step.now) }
+        ensures succeeds { HasRoom self.old step.now → IsOk result }
     {
         reserve_all(&mut self.parts, &step.parts)?;
         self.answer.reserve(step.answer.added.len())

@@ -1,11 +1,10 @@
 -- Lists of rows, one for each part of a pattern: the first of them, those of two sides together, and how many rows they have.
-use Rattle.std.proofs.Common.{◌≡◌, ◌∙◌, ℕ, ◌+◌, ◌<◌, List, length, [], ◌∷◌, ◌++◌, get_or, sum, map, sum_by, Option, refl, sym, ap, arith}
+use Rattle.std.proofs.Common.{◌≡◌, ℕ, ◌+◌, ◌<◌, List, length, [], ◌∷◌, ◌++◌, get_or, Option, refl, ap, arith}
 use Rattle.std.proofs.lemmas.List.Sums.{sum_by-cons, sum_by-append}
 use Rattle.std.specs.List.{AllZip}
 use Rattle.m3_terms.specs.declared.term.Term.{Term}
 use Rattle.m3_terms.specs.declared.triple.Triple.{Triple}
 use Rattle.sparql_algebra.specs.declared.algebra.Algebra.{Algebra, more_of-Algebra, Bgp, Join', Union', LeftJoin', Filter'}
-use Rattle.sparql_algebra.specs.declared.mapping.Binding.{Binding}
 use Rattle.sparql_algebra.specs.Solutions.{RowList}
 use Rattle.sparql_algebra.specs.Width.{parts}
 use Rattle.query_eval.specs.PartRows.{AreRowsOf, ArePartRows, row_count}

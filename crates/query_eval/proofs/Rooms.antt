@@ -1,5 +1,5 @@
 -- A part is evaluated from its sides, within what is left of the limit on the width.
-use Rattle.std.proofs.Common.{◌≡◌, ◌∙◌, ℕ, ◌+◌, ◌<◌, ◌≤◌, List, [], ◌∷◌, ◌++◌, length, Option, Result, MatchResult, sym, ap, subst, arith}
+use Rattle.std.proofs.Common.{◌≡◌, ◌∙◌, ℕ, ◌+◌, ◌<◌, ◌≤◌, List, [], ◌∷◌, ◌++◌, length, Option, Result, MatchResult, sym, subst, arith}
 use Rattle.std.proofs.lemmas.Result.{MatchResult-weaker}
 use Rattle.std.specs.List.{IsDistinct, AllZip}
 use Rattle.m3_terms.specs.TermTable.{NamesOnce}
@@ -18,7 +18,7 @@ use Rattle.sparql_algebra.proofs.Gathered.{more_than}
 use Rattle.pattern_join.specs.declared.fault.EvalFault.{EvalFault}
 use Rattle.pattern_join.specs.declared.fault.EvalFault.TheVariants.{TooWide, NoMemory}
 use Rattle.pattern_join.specs.Bgp.{StandsFor, AreSolutions, WhyNoRows}
-use Rattle.query_eval.specs.PartRows.{AreRowsOf, row_count}
+use Rattle.query_eval.specs.PartRows.{AreRowsOf}
 use Rattle.query_eval.specs.Parts.{AreTaken, WhyNotTaken, AreEvaluated, WhyNotEvaluated}
 use Rattle.query_eval.proofs.Counts.{as_many, too_many}
 use Rattle.query_eval.proofs.ListsOfRows.{zip_both, count_first, count_both}

@@ -1,5 +1,5 @@
 -- Rows whose number was taken off the room stand before those of the sides.
-use Rattle.std.proofs.Common.{◌≡◌, ◌∙◌, ℕ, ◌+◌, List, ◌∷◌, length, ap, subst}
+use Rattle.std.proofs.Common.{◌≡◌, ◌∙◌, ℕ, ◌+◌, List, ◌∷◌, length, ap}
 use Rattle.std.specs.List.{IsDistinct}
 use Rattle.sparql_algebra.specs.declared.mapping.Binding.{Binding}
 use Rattle.sparql_algebra.specs.RowSets.{AreExactly}

@@ -1,4 +1,4 @@
-use Rattle.std.proofs.Common.{List, Contains, ◌<◌, length, sym, subst, arith}
+use Rattle.std.proofs.Common.{List, Contains, subst, arith}
 use Rattle.sparql_algebra.specs.declared.mapping.Binding.{Binding}
 use Rattle.sparql_algebra.specs.RowSets.{AreExactly, IsProjectedRow}
 use Rattle.pattern_join.specs.Meaning.{graph_in}

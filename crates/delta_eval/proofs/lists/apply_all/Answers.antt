@@ -1,4 +1,4 @@
-use Rattle.std.proofs.Common.{◌≡◌, ◌∙◌, ◌<◌, length, sym, subst, arith}
+use Rattle.std.proofs.Common.{◌∙◌, sym, subst, arith}
 use Rattle.sparql_algebra.specs.Solutions.{RowList}
 use Rattle.delta_eval.specs.Changed.{IsChangeOf, HasRoomFor, LeadsTo}
 use Rattle.delta_eval.proofs.PlaceByPlace.{zip_and, nothing}
