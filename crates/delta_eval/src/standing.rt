@@ -67,6 +67,13 @@ impl Standing {
         })
     }
 
+    /// What is wanted.
+    pub fn wanted(&self) -> &Wanted
+        ensures { result.now ≡ self.now.wanted }
+    {
+        &self.wanted
+    }
+
     /// The rows of the answer, each once, in any order.
     pub fn answer(&self) -> &IdRows
         ensures { result.now ≡ self.now.answer }

@@ -18,5 +18,7 @@ mod queries;
 #[cfg(test)]
 mod scripts;
 #[cfg(test)]
+mod standing;
+#[cfg(test)]
 mod terms;
 mod texts;
