@@ -1,11 +1,10 @@
 //! Mappings and lists of solutions.
 use m3_intern::Interner;
-use m3_terms::{Term, TermId, TermList};
+use m3_terms::TermId;
 use sparql_algebra::{
     Expr, IdRows, Mapping, RowsFault, Var, VarList, filter_rows, join_rows, left_join_rows,
     project_rows, union_rows,
 };
-use sparql_read::read_query;
 use std::alloc::Global;
 use std::test::Fail;
 
@@ -92,24 +91,6 @@ fn rows_are_taken_out_from_the_end(rt: HostRuntime) -> Result<(), Fail> {
     let last = rows.pop().ok_or("no row")?;
     assert_eq!(rt; last.get(Var(0)), None);
     assert_eq!(rt; rows.len(), 1);
-    Ok(())
-}
-
-#[test]
-fn a_pattern_names_its_terms_as_they_are_written(rt: HostRuntime) -> Result<(), Fail> {
-    let alloc = rt.alloc();
-    let text =
-        b"SELECT DISTINCT ?x { ?x <p> \"on\" . FILTER (?x != <a> && CONTAINS(STR(?x), \"n\")) }";
-    let Ok(query) = read_query(alloc, text) else {
-        return Err("no query".into());
-    };
-    let mut terms = TermList::new(alloc);
-    query.pattern.constants(&mut terms)?;
-    assert_eq!(rt; terms.len(), 4);
-    for (at, expected) in [&b"p"[..], b"on", b"a", b"n"].into_iter().enumerate() {
-        let (Term::Uri(text) | Term::Literal(text)) = terms.get(at).ok_or("no term")?;
-        assert!(rt; text.as_bytes() == expected);
-    }
     Ok(())
 }
 

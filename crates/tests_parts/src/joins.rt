@@ -11,7 +11,7 @@ use crate::interner::keep;
 use m3_intern::Interner;
 use m3_terms::{NoMemory, Steps, Term, TermId, TermList, TermTable};
 use pattern_join::{EvalFault, bgp_all, matches};
-use sparql_algebra::{IdRows, Mapping, PatternList, PatternTriple, Place, Var};
+use sparql_algebra::{Algebra, IdRows, Mapping, PatternList, PatternTriple, Place, Var};
 use std::alloc::Global;
 use std::marker::Brand;
 use std::process::Abort;
@@ -393,4 +393,35 @@ fn all_solved<L: Ledger>(rt: &impl Abort, alloc: Global, blank: Blank) -> Result
 #[test]
 fn solves_basic_graph_patterns(rt: HostRuntime) -> Result<(), Fail> {
     all_solved::<Brand>(&rt, rt.alloc(), Blank::new(1))
+}
+
+// The terms of a pattern, in memory of their own.
+fn constants_of(alloc: Global, pattern: &Algebra) -> Result<TermList, NoMemory> {
+    let mut terms = TermList::new(alloc);
+    pattern.constants(&mut terms)?;
+    Ok(terms)
+}
+
+fn is_uri_of(term: Option<&Term>, text: &[u8]) -> bool {
+    match term {
+        Some(Term::Uri(found)) => found.as_bytes() == text,
+        Some(Term::Literal(_)) => false,
+        None => false,
+    }
+}
+
+// The second and the third of three terms that patterns name.
+fn are_named(alloc: Global, table: &[[Spot; 3]], texts: [&[u8]; 2]) -> Result<bool, Fail> {
+    let pattern = Algebra::Bgp(patterns(alloc, table)?);
+    let found = constants_of(alloc, &pattern);
+    drop(pattern);
+    let terms = found?;
+    Ok(terms.len() == 3 && is_uri_of(terms.get(1), texts[0]) && is_uri_of(terms.get(2), texts[1]))
+}
+
+#[test]
+fn a_pattern_names_its_terms_as_they_are_written(rt: HostRuntime) -> Result<(), Fail> {
+    let named = are_named(rt.alloc(), &[[X, P, Y], [Y, P, A]], [b"p", b"a"])?;
+    assert!(rt; named);
+    Ok(())
 }

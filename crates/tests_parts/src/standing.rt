@@ -1,5 +1,6 @@
 //! Standing queries that follow a graph.
 ghost use Rattle.std.specs.Prelude.{◌≡◌, ◌<◌};
+ghost use Rattle.delta_eval.specs.Wanted.{MayBeWanted};
 
 use crate::index::{index_of, masks, triples};
 use crate::joins::{are_meant, uris};
@@ -21,7 +22,9 @@ fn follow<L: Ledger>(
     wanted: Wanted,
     goes: &[[u32; 3]],
     steps: &mut Steps<L>,
-) -> Result<Option<[usize; 4]>, Fail> {
+) -> Result<Option<[usize; 4]>, Fail>
+    requires { MayBeWanted wanted }
+{
     let index = index_of(alloc, &triples(alloc, &[[1, 2, 3]])?, steps)?;
     let old: View<'_, L> = View::plain(&index);
     if !are_meant(&old, table, steps) {
