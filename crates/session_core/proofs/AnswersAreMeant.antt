@@ -77,10 +77,10 @@ meant_bytes terms t q h =
     omega (arith, ap size m.0, ap size m.1, ap size m.2)
 
 module _ (numbers : Numbers) (templates : List Pattern) (are : AreNumbers numbers) where
-  abbrev ids : List IdPattern
+  abbrev pub ids : List IdPattern
   ids = filter_map (pattern_in numbers.terms) templates
 
-  abbrev found : List IdTriple
+  abbrev pub found : List IdTriple
   found = filter (fits_one fits_ids ids) numbers.triples
 
   -- as many triples of numbers fit as triples of the graph
@@ -101,7 +101,7 @@ module _ (numbers : Numbers) (templates : List Pattern) (are : AreNumbers number
   found_fits t c = All-contains (λ x. fits_one fits_ids ids x ≡ true) found t (filter_passes (fits_one fits_ids ids) numbers.triples) c
 
   -- what they mean is what fits
-  from_found : (q : Triple) → Contains (triples_in numbers.terms found) q → Contains (fitting (graph_of numbers) templates) q
+  pub from_found : (q : Triple) → Contains (triples_in numbers.terms found) q → Contains (fitting (graph_of numbers) templates) q
   from_found q c =
       let t = mapped_from (triple_in numbers.terms) found q c in
       let there = was_there (fits_one fits_ids ids) numbers.triples t.0 t.1 in
@@ -109,7 +109,7 @@ module _ (numbers : Numbers) (templates : List Pattern) (are : AreNumbers number
       (sym (same_fits_one numbers.terms (named_once numbers.terms are.once) templates t.0 q t.2) ∙ found_fits t.0 t.1)
       (graph_has numbers t.0 q there t.2)
 
-  to_found : (q : Triple) → Contains (fitting (graph_of numbers) templates) q → Contains (triples_in numbers.terms found) q
+  pub to_found : (q : Triple) → Contains (fitting (graph_of numbers) templates) q → Contains (triples_in numbers.terms found) q
   to_found q c =
       let t = graph_from numbers q (was_there (fits_one fits templates) (graph_of numbers) q c) in
       let passes : fits_one fits templates q ≡ true =
@@ -124,7 +124,7 @@ module _ (numbers : Numbers) (templates : List Pattern) (are : AreNumbers number
       (λ q c. from_found q (Contains-permutation them (triples_in numbers.terms found) q (IsPermutation-sym (triples_in numbers.terms found) them same) c))
       (λ q c. Contains-permutation (triples_in numbers.terms found) them q same (to_found q c))
 
-  found_there : (t : IdTriple) → Contains found t → Contains numbers.triples t
+  pub found_there : (t : IdTriple) → Contains found t → Contains numbers.triples t
   found_there t c = was_there (fits_one fits_ids ids) numbers.triples t c
 
   -- put in order they are it

@@ -1,10 +1,11 @@
 -- Links of which one changes.
-use Rattle.std.proofs.Common.{◌≡◌, ◌≢◌, ◌⊎◌, ℕ, zero, suc, ◌-◌, Bool, true, false, List, [], ◌∷◌, ◌++◌, set, Option, Some, None, slice_get, refl, sym, ap, ◌∙◌, inl, inr, arith, if◌then◌else◌, nat_le}
+use Rattle.std.proofs.Common.{◌≡◌, ◌≢◌, ◌⊎◌, ℕ, zero, suc, ◌-◌, Bool, true, false, List, [], ◌∷◌, ◌++◌, set, Option, Some, None, slice_get, drop, refl, sym, ap, ◌∙◌, inl, inr, arith, if◌then◌else◌, nat_le}
 use Rattle.std.proofs.lemmas.Bool.{cases_eq, le-leb}
 use Rattle.std.proofs.lemmas.Option.{same_Some}
-use Rattle.link_table.specs.Links.{Link, is_open, closed_link, with_message, sent, link_at, changed}
+use Rattle.link_table.specs.Links.{Link, is_open, new_link, closed_link, with_message, sent, ended, lost, taken, link_at, changed}
 use Rattle.link_table.specs.declared.state.LinkState.{LinkState}
-use Rattle.link_table.specs.declared.state.LinkState.TheVariants.{Never, Overrun}
+use Rattle.link_table.specs.declared.state.LinkState.TheVariants.{Never, Ended, Overrun}
+use mathlib.Core.Logic.{⊎_elim}
 use Rattle.session_core.specs.Kept.{AllOpened}
 
 module _ {A : Type 0} where
@@ -108,3 +109,21 @@ pub sent-opened : (message : List ℕ) → KeepsOpened (sent message)
 sent-opened message link n =
     either-opened (is_open link.state) (with_message message link) link
     (either-opened _ (record link { pending = link.pending ++ message ∷ [] }) (closed_link Overrun link.pending) n (closed-opened Overrun link.pending (λ e. cc))) n
+
+pub ended-opened : KeepsOpened ended
+ended-opened link n = either-opened (is_open link.state) (closed_link Ended link.pending) link (closed-opened Ended link.pending (λ e. cc)) n
+
+pub lost-opened : KeepsOpened lost
+lost-opened link n = λ e. cc
+
+pub taken-opened : KeepsOpened taken
+taken-opened link n =
+    either-opened (is_open link.state) (record { state = link.state; pending = drop 1 link.pending }) (closed_link link.state (drop 1 link.pending)) n
+    (closed-opened link.state (drop 1 link.pending) n)
+
+-- links of which the next one opened stay opened
+pub opens-opened : (links : List Link) → AllOpened links → AllOpened (links ++ new_link ∷ [])
+opens-opened links all zero link h = cc
+opens-opened links all (suc place) link h =
+    ⊎_elim (λ old. all (suc place) link (link_at-place links place ∙ old)) (λ (e : link ≡ new_link) never. cc)
+    (push_there links place new_link link (sym (link_at-place (links ++ new_link ∷ []) place) ∙ h))

@@ -4,14 +4,15 @@ use Rattle.std.proofs.lemmas.Option.{same_Some}
 use Rattle.std.specs.Option.{option_or, unwrap_or}
 use Rattle.ssap_items.specs.declared.heads.Heads.{Heads}
 use Rattle.ssap_shape.specs.declared.status.Status.{Status}
-use Rattle.ssap_shape.specs.declared.status.Status.TheVariants.{Success, AccessDenied, NotImplemented, Request as BadRequest}
+use Rattle.ssap_shape.specs.declared.status.Status.TheVariants.{Success, AccessDenied, Request as BadRequest}
 use Rattle.ssap_shape.specs.declared.request.Ask.{Ask}
 use Rattle.ssap_shape.specs.declared.request.Request.{Request}
 use Rattle.ssap_shape.specs.declared.request.Arrived.TheVariants as arrived
 use Rattle.session_core.specs.Space.{Space}
-use Rattle.session_core.specs.Requests.{is_for, is_stranger, is_built, is_unfit, is_success, refuse, Rank, elsewhere, denied, unbuilt, unfit, unread, over, early_ranks, first_of, verdict, confirm}
-use Rattle.session_core.specs.Steps.{queue, delivered}
-use Rattle.session_core.specs.Ranks.{decided, asking, passed}
+use Rattle.session_core.specs.Requests.{is_for, is_stranger, is_unfit, is_success, refuse, Rank, elsewhere, denied, unfit, unread, over, early_ranks, first_of, verdict, confirm}
+use Rattle.session_core.specs.Queues.{queue}
+use Rattle.session_core.specs.Steps.{decided, delivered}
+use Rattle.session_core.specs.Ranks.{asking, passed}
 
 or_assoc : {A : Type 0} (a b c : Option A) → option_or (option_or a b) c ≡ option_or a (option_or b c)
 or_assoc None b c = refl
@@ -58,8 +59,7 @@ early_refuses : (space : Space) (request : Request) → Refuses (first_of early_
 early_refuses space request =
     or_refuses (elsewhere space request) _ (refuse_refuses (not (is_for space request.heads)) BadRequest refl)
     (or_refuses (denied space request) _ (refuse_refuses (is_stranger space request.heads request.ask) AccessDenied refl)
-    (or_refuses (unbuilt space request) _ (refuse_refuses (not (is_built request.ask)) NotImplemented refl)
-    (or_refuses (unfit space request) _ (refuse_refuses (is_unfit request.ask) BadRequest refl) none_refuses)))
+    (or_refuses (unfit space request) _ (refuse_refuses (is_unfit space request.heads request.ask) BadRequest refl) none_refuses))
 
 -- a request that is refused changes nothing, and its confirm tells the status alone
 pub decided_refused : (space : Space) (link : ℕ) (request : Request) (status : Status) → is_success status ≡ false
@@ -89,22 +89,12 @@ none_later : (a b : Option Status) → option_or a b ≡ None → b ≡ None
 none_later None b h = h
 none_later (Some a) b h = cc
 
-passes_refuse : (passes : Bool) (status : Status) → refuse (not passes) status ≡ None → passes ≡ true
-passes_refuse true status h = refl
-passes_refuse false status h = cc
-
--- what passes the ranks before query texts and limits is built
-pub passes_built : (space : Space) (request : Request) → first_of early_ranks space request ≡ None → is_built request.ask ≡ true
-passes_built space request h =
-    let later = none_later (denied space request) _ (none_later (elsewhere space request) _ h) in
-    passes_refuse (is_built request.ask) NotImplemented (none_first (unbuilt space request) _ later)
-
 refuse_passes : (refuses : Bool) (status : Status) → refuse refuses status ≡ None → refuses ≡ false
 refuse_passes true status h = cc
 refuse_passes false status h = refl
 
--- and can be done
-pub passes_fit : (space : Space) (request : Request) → first_of early_ranks space request ≡ None → is_unfit request.ask ≡ false
+-- what passes the ranks before query texts and limits can be done
+pub passes_fit : (space : Space) (request : Request) → first_of early_ranks space request ≡ None → is_unfit space request.heads request.ask ≡ false
 passes_fit space request h =
-    let later = none_later (unbuilt space request) _ (none_later (denied space request) _ (none_later (elsewhere space request) _ h)) in
-    refuse_passes (is_unfit request.ask) BadRequest (none_first (unfit space request) _ later)
+    let later = none_later (denied space request) _ (none_later (elsewhere space request) _ h) in
+    refuse_passes (is_unfit space request.heads request.ask) BadRequest (none_first (unfit space request) _ later)

@@ -16,8 +16,11 @@ use Rattle.ssap_shape.specs.declared.request.Ask.TheVariants.{Join, Leave, Updat
 use Rattle.ssap_shape.specs.declared.request.Arrived.{Arrived}
 use Rattle.ssap_shape.specs.declared.request.Arrived.TheVariants.{Request, Wrong, NotRequest}
 use Rattle.session_core.specs.Space.{Space, empty_space}
-use Rattle.session_core.specs.Requests.{verdict, is_success, granted, done, confirm_due}
-use Rattle.session_core.specs.Steps.{Step, queue, delivered, with_links, on_open, on_opened, take_step, taken_from, step}
+use Rattle.session_core.specs.Subscriptions.{Wanted, wanted_by}
+use Rattle.session_core.specs.Requests.{verdict, is_success, granted, subscribed, done_with, due_with}
+use Rattle.session_core.specs.Queues.{with_links, queue}
+use Rattle.session_core.specs.Following.{follow_with}
+use Rattle.session_core.specs.Steps.{Step, delivered, on_open, on_opened, take_step, taken_from, step}
 use Rattle.session_core.specs.Runs.{run_from, is_update, accepts, is_accepted, updates, updates_from}
 use Rattle.session_core.specs.Laws.{graph_by_ask, graph_by_arrived, graph_by_call, graph_by, NameStays, NodesInOrder, TriplesInOrder, UpdatesCounted, GraphOfUpdates}
 use Rattle.session_core.specs.declared.call.Call.{Call}
@@ -25,6 +28,7 @@ use Rattle.session_core.specs.declared.call.Call.TheVariants as call
 use Rattle.session_core.proofs.Fitting.{updates_keep_order}
 use Rattle.session_core.proofs.NumbersCountOnce.{nil_ordered}
 use Rattle.session_core.proofs.Members.{text_one, none_joined}
+use Rattle.session_core.proofs.WhatFollowsHolds.{HoldsOfTelling, queue_holds, follow_holds}
 
 -- the updates grew by so many, the graph is this, the name stays, and the nodes stay in order
 pub record Grows (old new : Space) (count : ℕ) (triples : List Triple) : Type 0 where
@@ -37,10 +41,40 @@ pub record Grows (old new : Space) (count : ℕ) (triples : List Triple) : Type 
 linked : (space : Space) (links : List Link) → Grows space (with_links space links) 0 space.graph
 linked space links = record { name = refl; updates = omega arith; graph = refl; joined = λ s. s }
 
--- a message that is sent changes links alone
-queued : (old new : Space) (link : ℕ) (due : Option (List ℕ)) (count : ℕ) (graph : List Triple) → Grows old new count graph → Grows old (queue new link due) count graph
-queued old new link None count graph g = g
-queued old new link (Some message) count graph g = record { name = g.name; updates = g.updates; graph = g.graph; joined = g.joined }
+-- a space is as it was but for its links and its subscriptions
+pub record IsAlike (old new : Space) : Type 0 where
+  pub name : new.name ≡ old.name
+  pub joined : new.joined ≡ old.joined
+  pub graph : new.graph ≡ old.graph
+  pub updates : new.updates ≡ old.updates
+  pub numbered : new.numbered ≡ old.numbered
+
+-- it is so whatever follows from a request
+pub alike_holds : HoldsOfTelling IsAlike
+alike_holds = record {
+  sending = record {
+    same = λ space. record { name = refl; joined = refl; graph = refl; updates = refl; numbered = refl };
+    chain = λ a b c (p : IsAlike a b) (q : IsAlike b c). record {
+      name = q.name ∙ p.name;
+      joined = q.joined ∙ p.joined;
+      graph = q.graph ∙ p.graph;
+      updates = q.updates ∙ p.updates;
+      numbered = q.numbered ∙ p.numbered;
+    };
+    sends = λ space link message. record { name = refl; joined = refl; graph = refl; updates = refl; numbered = refl };
+  };
+  drops = λ space number. record { name = refl; joined = refl; graph = refl; updates = refl; numbered = refl };
+  counts = λ space number. record { name = refl; joined = refl; graph = refl; updates = refl; numbered = refl };
+}
+
+-- what grew is no less where links and subscriptions change
+grows_on : (old new after : Space) (count : ℕ) (graph : List Triple) → IsAlike new after → Grows old new count graph → Grows old after count graph
+grows_on old new after count graph a g = record {
+  name = a.name ∙ g.name;
+  updates = a.updates ∙ g.updates;
+  graph = a.graph ∙ g.graph;
+  joined = λ s. subst (IsStrictlySortedBy text_cmp) (sym a.joined) (g.joined s);
+}
 
 -- the accepted calls of one
 abbrev accepted : Bool → Call → List Call
@@ -53,9 +87,14 @@ GrowsBy old new calls = Grows old new (length calls) (graph_by old.graph calls)
 still : (space : Space) → GrowsBy space space []
 still space = record { name = refl; updates = omega arith; graph = refl; joined = λ s. s }
 
+-- a subscription leaves what grows
+subscribed_by : (space : Space) (link : ℕ) (heads : Heads) (wanted : Option Wanted) → GrowsBy space (subscribed space link heads wanted) []
+subscribed_by space link heads None = still space
+subscribed_by space link heads (Some wanted) = record { name = refl; updates = omega arith; graph = refl; joined = λ s. s }
+
 -- what a request that is granted does
 granted_by : (space : Space) (link : ℕ) (heads : Heads) (ask : Ask)
-    → GrowsBy space (granted space heads ask) (accepted (is_update ask && true) (call.Deliver link (Request (record { heads = heads; ask = ask }))))
+    → GrowsBy space (granted space link heads ask) (accepted (is_update ask && true) (call.Deliver link (Request (record { heads = heads; ask = ask }))))
 granted_by space link heads Join = record {
   name = refl;
   updates = omega arith;
@@ -70,16 +109,17 @@ granted_by space link heads Leave = record {
 }
 granted_by space link heads (Update remove insert confirm) = record { name = refl; updates = refl; graph = refl; joined = λ s. s }
 granted_by space link heads (Query wish) = still space
-granted_by space link heads (Subscribe wish) = still space
-granted_by space link heads (Unsubscribe text) = still space
+granted_by space link heads (Subscribe wish) = subscribed_by space link heads (wanted_by wish)
+granted_by space link heads (Unsubscribe text) = record { name = refl; updates = omega arith; graph = refl; joined = λ s. s }
 
 -- what is refused is accepted by no rank
 refused_by : (space : Space) (one : Call) (update : Bool) → GrowsBy space space (accepted (update && false) one)
 refused_by space one true = still space
 refused_by space one false = still space
 
-grant_by : (space : Space) (link : ℕ) (heads : Heads) (ask : Ask) (success : Bool)
-    → GrowsBy space (if success then granted space heads ask else space)
+-- what a request does, by whether it is granted
+pub grant_by : (space : Space) (link : ℕ) (heads : Heads) (ask : Ask) (success : Bool)
+    → GrowsBy space (if success then granted space link heads ask else space)
     (accepted (is_update ask && success) (call.Deliver link (Request (record { heads = heads; ask = ask }))))
 grant_by space link heads ask true = granted_by space link heads ask
 grant_by space link heads ask false = refused_by space (call.Deliver link (Request (record { heads = heads; ask = ask }))) (is_update ask)
@@ -87,7 +127,12 @@ grant_by space link heads ask false = refused_by space (call.Deliver link (Reque
 -- what arrives on an open link
 arrived_by : (space : Space) (link : ℕ) (arrived : Arrived) → GrowsBy space (delivered space link arrived) (accepted (accepts space arrived) (call.Deliver link arrived))
 arrived_by space link (Request request) =
-    queued space (done space request) link (confirm_due space request) _ _ (grant_by space link request.heads request.ask (is_success (verdict space request)))
+    let status = verdict space request in
+    let done = done_with space link request status in
+    let queued = queue done link (due_with space request status) in
+    grows_on space queued (follow_with space request status queued) _ _ (follow_holds IsAlike alike_holds space request status queued)
+    (grows_on space done queued _ _ (queue_holds IsAlike alike_holds.sending done link (due_with space request status))
+    (grant_by space link request.heads request.ask (is_success status)))
 arrived_by space link (Wrong heads status) = linked space _
 arrived_by space link NotRequest = linked space _
 

@@ -14,6 +14,7 @@ use Rattle.m3_terms.specs.InsertedLaws.{inserted_is}
 use Rattle.m3_terms.specs.Order.{text_cmp}
 use Rattle.m3_terms.specs.OrderLaws.{text_cmp_total, text_cmp_exact}
 use Rattle.session_core.specs.Space.{Space, with_node, without_node}
+use Rattle.session_core.specs.Subscriptions.{is_of}
 
 -- two texts that compare alike are one
 pub text_one : (a b : List ℕ) → text_cmp a b ≡ Equal → a ≡ b
@@ -69,7 +70,10 @@ pub space_joined : (space : Space) (node : List ℕ) (joined : List (List ℕ)) 
     → joined ≡ insert_key text_cmp space.joined node → record space { joined = joined } ≡ with_node space node
 space_joined space node joined s e = ap (λ nodes. record space { joined = nodes }) (node_joined node space.joined joined s e)
 
--- and after a node was taken out
+-- and after a node was taken out, with all of its subscriptions
 pub space_left : (space : Space) (node : List ℕ) (joined : List (List ℕ)) → IsStrictlySortedBy text_cmp space.joined
-    → joined ≡ remove_key (is_at (text_cmp node)) space.joined → record space { joined = joined } ≡ without_node space node
-space_left space node joined s e = ap (λ nodes. record space { joined = nodes }) (e ∙ node_left node space.joined s)
+    → joined ≡ remove_key (is_at (text_cmp node)) space.joined
+    → record space { joined = joined; subscriptions = filter (λ subscription. not (is_of node subscription)) space.subscriptions } ≡ without_node space node
+space_left space node joined s e =
+    ap (λ nodes. record space { joined = nodes; subscriptions = filter (λ subscription. not (is_of node subscription)) space.subscriptions })
+    (e ∙ node_left node space.joined s)

@@ -35,7 +35,8 @@ use Rattle.triple_index.specs.declared.triple.IdPattern.{IdPattern}
 use Rattle.session_core.specs.Graph.{fits, triples_of, terms_of_slot, terms_of_pattern, terms_of, graph_after, with_named}
 use Rattle.session_core.specs.Numbers.{Numbers, triple_in, triples_in, graph_of, AreNumbers, made, number_in, number_of_slot, ids_with, ids_of, ids_of_triple, pattern_in}
 use Rattle.session_core.specs.Requests.{is_no_triple, is_overfull}
-use Rattle.session_core.specs.Prepared.{IsDraft, IsChange, IsUpdateOf}
+use Rattle.session_core.specs.Prepared.{IsChange, IsUpdateOf}
+use Rattle.session_core.specs.Watches.{IsNamedBy}
 use Rattle.session_core.proofs.Fitting.{triple_one}
 use Rattle.answer_bodies.proofs.RowTriples.{triple_terms}
 use Rattle.session_core.proofs.NumbersMeanTerms.{number_found, number_some, means_still}
@@ -90,11 +91,11 @@ meant terms t some = at (triple_in terms t) some refl
     at None s h = cc
     at (Some q) s h = (q, h)
 
-is_meant : (terms : List Term) (t : IdTriple) (q : Triple) → triple_in terms t ≡ Some q → IsSome (triple_in terms t)
+pub is_meant : (terms : List Term) (t : IdTriple) (q : Triple) → triple_in terms t ≡ Some q → IsSome (triple_in terms t)
 is_meant terms t q h = subst (λ x. IsSome x) (sym h) refl
 
 -- triples that mean something mean the same where more terms stand behind
-triples_still : (terms more : List Term) (triples : List IdTriple) → ((t : IdTriple) → Contains triples t → IsSome (triple_in terms t))
+pub triples_still : (terms more : List Term) (triples : List IdTriple) → ((t : IdTriple) → Contains triples t → IsSome (triple_in terms t))
     → triples_in (terms ++ more) triples ≡ triples_in terms triples
 triples_still terms more [] named = refl
 triples_still terms more (t ∷ ts) named =
@@ -360,7 +361,7 @@ over_terms graph named remove insert h =
 -- ---- what is prepared, and limits
 
 module _ (old : Numbers) (more : List Term) (remove insert : List Pattern) (change : Net)
-    (are : AreNumbers old) (triples : list_any is_no_triple insert ≡ false) (draft : IsDraft old insert more) (is : IsChange old more remove insert change) where
+    (are : AreNumbers old) (triples : list_any is_no_triple insert ≡ false) (draft : IsNamedBy old (terms_of insert) more) (is : IsChange old more remove insert change) where
   numbers : AreNumbers (made old more change)
   numbers = update_numbers old more remove insert change are draft.once draft.named triples is
 
@@ -390,15 +391,15 @@ module _ (old : Numbers) (more : List Term) (remove insert : List Pattern) (chan
         (le-ltb 268435456 (bytes_of_terms (with_named old.terms (terms_of insert))) (subst (λ l. bytes_of_terms l ≤ 268435456) named draft.within));
   }
 
--- the new terms that an interner drafts are those of the update
-pub draft_is : (kept : Kept) (old : Numbers) (insert : List Pattern) (wanted more : List Term) → kept.terms ≡ old.terms → kept.limit ≡ 268435456
-    → wanted ≡ terms_of insert → more ≡ fresh kept.terms wanted → IsDraftOf kept more
-    → ((term : Term) → Contains wanted term → Contains (kept.terms ++ more) term) → IsDraft old insert more
-draft_is kept old insert wanted more e limit w n is there = record {
-  new = n ∙ ap (λ terms. fresh terms wanted) e ∙ ap (fresh old.terms) w;
+-- the new terms that an interner drafts are those among some that are named
+pub draft_is : (kept : Kept) (old : Numbers) (wanted more : List Term) → kept.terms ≡ old.terms → kept.limit ≡ 268435456
+    → more ≡ fresh kept.terms wanted → IsDraftOf kept more
+    → ((term : Term) → Contains wanted term → Contains (kept.terms ++ more) term) → IsNamedBy old wanted more
+draft_is kept old wanted more e limit n is there = record {
+  new = n ∙ ap (λ terms. fresh terms wanted) e;
   once = subst (λ terms. IsDistinct term_eq (terms ++ more)) e is.once;
   within = subst (λ terms. bytes_of_terms (terms ++ more) ≤ 268435456) e (subst (λ n. bytes_of_terms (kept.terms ++ more) ≤ n) limit is.within);
-  named = λ term c. subst (λ terms. Contains (terms ++ more) term) e (there term (subst (λ l. Contains l term) (sym w) c));
+  named = λ term c. subst (λ terms. Contains (terms ++ more) term) e (there term c);
 }
 
 -- the patterns of an update by the numbers of a table

@@ -23,8 +23,11 @@ use Rattle.session_core.specs.Graph.{graph_after, terms_of, with_named}
 use Rattle.session_core.specs.Answers.{fitting, text_bytes, column_names, answer_of, answer_to, reading_width, width_of}
 use Rattle.session_core.specs.Prepared.{IsAnswer, IsUnanswerable, answering}
 use Rattle.session_core.specs.Requests.{is_overfull, is_wide, is_success, refuse, status_of_fault, reading_refusal, wish_refusal, granting, confirm, confirm_bytes, due_if}
-use Rattle.session_core.specs.Steps.{queue}
-use Rattle.session_core.specs.Ranks.{asking, decided, passed, answered, queried}
+use Rattle.session_core.specs.Subscriptions.{numbers_of}
+use Rattle.session_core.specs.Queues.{queue}
+use Rattle.session_core.specs.Following.{tell_changes}
+use Rattle.session_core.specs.Steps.{decided}
+use Rattle.session_core.specs.Ranks.{asking, passed, answered, queried}
 use Rattle.session_core.proofs.Decided.{decided_refused}
 use Rattle.session_core.proofs.TextsAreWritten.{texts_written}
 
@@ -34,20 +37,22 @@ pub update_over : (space : Space) (link : ℕ) (heads : Heads) (remove insert : 
     → passed space link heads (Update remove insert wanted) ≡ queue space link (Some (confirm heads OutOfResources))
 update_over space link heads remove insert wanted h = rw h refl
 
--- and another is granted
+-- and another is granted, and told to all subscriptions
 update_granted : (space : Space) (link : ℕ) (heads : Heads) (remove insert : List Pattern) (wanted : Bool)
     → is_overfull space.graph space.named remove insert ≡ false
     → passed space link heads (Update remove insert wanted)
-    ≡ queue (updated space (graph_after space.graph remove insert) (with_named space.named (terms_of insert))) link (due_if wanted heads)
+    ≡ tell_changes space.graph (queue (updated space (graph_after space.graph remove insert) (with_named space.named (terms_of insert))) link (due_if wanted heads))
+    (numbers_of space.subscriptions)
 update_granted space link heads remove insert wanted h = rw h refl
 
 -- the space with this graph and these named terms is the one after an update that is granted
 pub update_done : (space : Space) (link : ℕ) (heads : Heads) (remove insert : List Pattern) (wanted : Bool) (graph : List Triple) (named : List Term)
     → is_overfull space.graph space.named remove insert ≡ false → graph ≡ graph_after space.graph remove insert → named ≡ with_named space.named (terms_of insert)
-    → queue (updated space graph named) link (due_if wanted heads) ≡ passed space link heads (Update remove insert wanted)
+    → tell_changes space.graph (queue (updated space graph named) link (due_if wanted heads)) (numbers_of space.subscriptions)
+    ≡ passed space link heads (Update remove insert wanted)
 update_done space link heads remove insert wanted graph named h g n =
-    ap (λ graph. queue (updated space graph named) link (due_if wanted heads)) g
-    ∙ ap (λ named. queue (updated space (graph_after space.graph remove insert) named) link (due_if wanted heads)) n
+    ap (λ graph. tell_changes space.graph (queue (updated space graph named) link (due_if wanted heads)) (numbers_of space.subscriptions)) g
+    ∙ ap (λ named. tell_changes space.graph (queue (updated space (graph_after space.graph remove insert) named) link (due_if wanted heads)) (numbers_of space.subscriptions)) n
     ∙ sym (update_granted space link heads remove insert wanted h)
 
 -- a query that its text does not refuse is decided by its width and by its confirm
@@ -68,7 +73,7 @@ pub query_passed : (space : Space) (link : ℕ) (heads : Heads) (wish : Wish) (a
     → passed space link heads (Query wish) ≡ queried space link heads (width_of space.graph wish) answer
 query_passed space link heads wish answer h e =
     let wide = nat_lt 65536 (width_of space.graph wish) in
-    ap (λ found. decided space link (asking heads (Query wish)) (unwrap_or (option_or found (refuse (is_wide space heads wish) OutOfResources)) Success)) h
+    ap (λ found. decided space link (asking heads (Query wish)) (unwrap_or (option_or found (refuse (is_wide space heads (Query wish) wish) OutOfResources)) Success)) h
     ∙ by_limits space link heads wish wide (nat_lt 4194304 (length (confirm_bytes (granting space heads (Query wish)))))
     ∙ ap (λ found. if wide then queue space link (Some (confirm heads OutOfResources))
     else (if nat_lt 4194304 (length (confirm_bytes (bringing heads found))) then queue space link (Some (confirm heads OutOfResources))
@@ -133,7 +138,7 @@ query_read space link heads text query e =
     ∙ ap (λ width. queried space link heads width table) (ap (reading_width space.graph) e)
 
 -- a fault is not told as success
-fault_refuses : (why : ReadFault) → is_success (status_of_fault why) ≡ false
+pub fault_refuses : (why : ReadFault) → is_success (status_of_fault why) ≡ false
 fault_refuses (fault.NotInProfile place) = refl
 fault_refuses (fault.OverLimit which place) = refl
 fault_refuses fault.NotDistinct = refl
@@ -144,5 +149,5 @@ pub query_unread : (space : Space) (link : ℕ) (heads : Heads) (text : List ℕ
     → passed space link heads (Query (Sparql text)) ≡ queue space link (Some (confirm heads (status_of_fault why)))
 query_unread space link heads text why e =
     ap (λ found. decided space link (asking heads (Query (Sparql text)))
-    (unwrap_or (option_or (reading_refusal found) (refuse (is_wide space heads (Sparql text)) OutOfResources)) Success)) e
+    (unwrap_or (option_or (reading_refusal found) (refuse (is_wide space heads (Query (Sparql text)) (Sparql text)) OutOfResources)) Success)) e
     ∙ decided_refused space link (asking heads (Query (Sparql text))) (status_of_fault why) (fault_refuses why)

@@ -10,24 +10,30 @@ use Rattle.link_table.specs.declared.state.LinkState.TheVariants.{Never, Open, E
 use Rattle.ssap_shape.specs.declared.request.Arrived.{Arrived}
 use Rattle.ssap_shape.specs.declared.request.Arrived.TheVariants.{Request, Wrong, NotRequest}
 use Rattle.session_core.specs.Space.{Space, empty_space}
-use Rattle.session_core.specs.Requests.{done, confirm, confirm_due, wrong_status}
-use Rattle.session_core.specs.Steps.{Step, queue, delivered, with_links, on_open, on_opened, idle, take_step, taken_from as step_from, step}
+use Rattle.session_core.specs.Requests.{done_with, due_with, verdict, confirm, wrong_status}
+use Rattle.session_core.specs.Queues.{with_links, queue}
+use Rattle.session_core.specs.Following.{follow_with}
+use Rattle.session_core.specs.Steps.{Step, delivered, on_open, on_opened, idle, take_step, taken_from as step_from, step}
 use Rattle.session_core.specs.Runs.{run_from, sent_by, sent_from, message_in, taken_by, taken_from, loses}
 use Rattle.session_core.specs.Laws.{SentTakenWaiting, TakenOfSent}
 use Rattle.session_core.specs.declared.call.Call.{Call}
 use Rattle.session_core.specs.declared.call.Call.TheVariants as call
 use Rattle.session_core.proofs.Changes.{link_at-place, changed-none, changed-there, changed-apart, push_there, push_old}
 use Rattle.session_core.proofs.Told.{done_links}
+use Rattle.session_core.proofs.WhatFollowsHolds.{HoldsOfTelling, follow_holds}
 
 -- messages with more behind them
-abbrev Extends : List (List ℕ) → List (List ℕ) → Type 0
+abbrev pub Extends : List (List ℕ) → List (List ℕ) → Type 0
 Extends old new = (more : List (List ℕ)) × (new ≡ old ++ more)
 
-extends_same : (pending : List (List ℕ)) → Extends pending pending
+pub extends_same : (pending : List (List ℕ)) → Extends pending pending
 extends_same pending = ([], sym (append-nil pending))
 
 extends_by : (old new : List (List ℕ)) → new ≡ old → Extends old new
 extends_by old new e = ([], e ∙ sym (append-nil old))
+
+pub extends_chain : (old between new : List (List ℕ)) → Extends old between → Extends between new → Extends old new
+extends_chain old between new x y = (x.0 ++ y.0, y.1 ∙ ap (λ l. l ++ y.0) x.1 ∙ append_assoc old x.0 y.0)
 
 -- what is behind messages is what is dropped behind them
 extends_drop : (old new : List (List ℕ)) → Extends old new → old ++ drop (length old) new ≡ new
@@ -72,18 +78,35 @@ with_pending : (open' : Bool) (state : LinkState) (pending : List (List ℕ)) �
 with_pending true state pending = refl
 with_pending false state pending = closed_pending state pending
 
-queued_extends : (old new : Space) (link : ℕ) (due : Option (List ℕ)) (number : ℕ) → new.links ≡ old.links
+pub queued_extends : (old new : Space) (link : ℕ) (due : Option (List ℕ)) (number : ℕ) → new.links ≡ old.links
     → Extends (pending_of old.links number) (pending_of (queue new link due).links number)
 queued_extends old new link None number e = extends_by _ _ (ap (λ links. pending_of links number) e)
 queued_extends old new link (Some message) number e =
     subst (λ links. Extends (pending_of old.links number) (pending_of (changed (sent message) links link) number)) (sym e)
     (pending_changed Extends extends_same (sent message) (sent_pending message) old.links link number)
 
-delivered_extends : (space : Space) (link : ℕ) (arrived : Arrived) (number : ℕ) → Extends (pending_of space.links number) (pending_of (delivered space link arrived).links number)
+-- whatever follows from a request, on each link messages are sent behind those that wait
+pub extends_holds : (number : ℕ) → HoldsOfTelling (λ old new. Extends (pending_of old.links number) (pending_of new.links number))
+extends_holds number = record {
+  sending = record {
+    same = λ space. extends_same (pending_of space.links number);
+    chain = λ a b c x y. extends_chain (pending_of a.links number) (pending_of b.links number) (pending_of c.links number) x y;
+    sends = λ space link message. pending_changed Extends extends_same (sent message) (sent_pending message) space.links link number;
+  };
+  drops = λ space dropped. extends_same (pending_of space.links number);
+  counts = λ space told. extends_same (pending_of space.links number);
+}
+
+pub delivered_extends : (space : Space) (link : ℕ) (arrived : Arrived) (number : ℕ) → Extends (pending_of space.links number) (pending_of (delivered space link arrived).links number)
 delivered_extends space link NotRequest number =
     extends_by _ _ (pending_changed (λ old new. new ≡ old) (λ p. refl) ended ended_pending space.links link number)
 delivered_extends space link (Wrong heads status) number = queued_extends space space link (Some (confirm heads (wrong_status space heads status))) number refl
-delivered_extends space link (Request request) number = queued_extends space (done space request) link (confirm_due space request) number (done_links space request)
+delivered_extends space link (Request request) number =
+    let status = verdict space request in
+    let queued = queue (done_with space link request status) link (due_with space request status) in
+    extends_chain (pending_of space.links number) (pending_of queued.links number) (pending_of (follow_with space request status queued).links number)
+    (queued_extends space (done_with space link request status) link (due_with space request status) number (done_links space link request status))
+    (follow_holds (λ old new. Extends (pending_of old.links number) (pending_of new.links number)) (extends_holds number) space request status queued)
 
 on_open_extends : (state : LinkState) (old new : Space) (number : ℕ) → Extends (pending_of old.links number) (pending_of new.links number)
     → Extends (pending_of old.links number) (pending_of (on_open state old new).space.links number)
@@ -280,10 +303,26 @@ gone_queued old new link None number e h = subst (λ links. IsGone links number)
 gone_queued old new link (Some message) number e h =
     gone_changed (sent message) refl new.links link number (subst (λ links. IsGone links number) (sym e) h)
 
+-- and whatever follows from a request
+gone_holds : (number : ℕ) → HoldsOfTelling (λ old new. IsGone old.links number → IsGone new.links number)
+gone_holds number = record {
+  sending = record {
+    same = λ space h. h;
+    chain = λ a b c p q h. q (p h);
+    sends = λ space link message h. gone_changed (sent message) refl space.links link number h;
+  };
+  drops = λ space dropped h. h;
+  counts = λ space told h. h;
+}
+
 gone_delivered : (space : Space) (link : ℕ) (arrived : Arrived) (number : ℕ) → IsGone space.links number → IsGone (delivered space link arrived).links number
 gone_delivered space link NotRequest number h = gone_changed ended refl space.links link number h
 gone_delivered space link (Wrong heads status) number h = gone_queued space space link (Some (confirm heads (wrong_status space heads status))) number refl h
-gone_delivered space link (Request request) number h = gone_queued space (done space request) link (confirm_due space request) number (done_links space request) h
+gone_delivered space link (Request request) number h =
+    let status = verdict space request in
+    let queued = queue (done_with space link request status) link (due_with space request status) in
+    follow_holds (λ old new. IsGone old.links number → IsGone new.links number) (gone_holds number) space request status queued
+    (gone_queued space (done_with space link request status) link (due_with space request status) number (done_links space link request status) h)
 
 gone_on_open : (state : LinkState) (old new : Space) (number : ℕ) → IsGone old.links number → IsGone new.links number → IsGone (on_open state old new).space.links number
 gone_on_open Never old new number h k = h

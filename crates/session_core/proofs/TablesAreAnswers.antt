@@ -81,11 +81,11 @@ module _ (terms : ℕ → Option Term) (query : Query) (graph : List Triple) (ro
 
 module _ (numbers : Numbers) (are : AreNumbers numbers) where
   -- what the numbers mean, in their order
-  abbrev meant : List Triple
+  abbrev pub meant : List Triple
   meant = graph_in (slice_get numbers.terms) numbers.triples
 
   -- they mean the triples of the graph
-  same_members : HaveSame meant (graph_of numbers)
+  pub same_members : HaveSame meant (graph_of numbers)
   same_members q = (
     λ c. let t = mapped_from (triple_in numbers.terms) numbers.triples q c in graph_has numbers t.0 q t.1 t.2,
     λ c. let t = graph_from numbers q c in mapped_to (triple_in numbers.terms) numbers.triples t.0 q t.1 t.2,

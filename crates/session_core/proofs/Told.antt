@@ -2,22 +2,23 @@
 use Rattle.std.proofs.Common.{◌≡◌, ◌≢◌, ℕ, zero, suc, ◌+◌, Bool, true, false, ◌&&◌, ◌||◌, not, nat_lt, List, [], ◌∷◌, ◌++◌, length, set, Option, Some, None, slice_get, refl, sym, ap, subst, ◌∙◌, arith, append-nil, if◌then◌else◌}
 use Rattle.std.proofs.lemmas.Bool.{le-ltb}
 use Rattle.std.proofs.lemmas.Option.{same_Some}
-use Rattle.link_table.specs.Links.{Link, is_open, sent, ended, lost, link_at, changed, state_of, pending_of, state_or_never, pending_or_none}
+use Rattle.link_table.specs.Links.{Link, is_open, sent, lost, link_at, changed, state_of, pending_of, state_or_never, pending_or_none}
 use Rattle.link_table.specs.declared.state.LinkState.{LinkState}
 use Rattle.link_table.specs.declared.state.LinkState.TheVariants.{Never, Open, Ended, Overrun, Gone}
 use Rattle.ssap_items.specs.declared.heads.Heads.{Heads}
 use Rattle.ssap_shape.specs.declared.request.Ask.{Ask}
 use Rattle.ssap_shape.specs.declared.request.Ask.TheVariants.{Join, Leave, Update, Query, Subscribe, Unsubscribe}
 use Rattle.ssap_shape.specs.declared.request.Request as asked
-use Rattle.ssap_shape.specs.declared.request.Arrived.{Arrived}
-use Rattle.ssap_shape.specs.declared.request.Arrived.TheVariants.{Request, Wrong, NotRequest}
+use Rattle.ssap_shape.specs.declared.status.Status.{Status}
 use Rattle.session_core.specs.declared.call.Call.TheVariants.{Lost}
 use Rattle.session_core.specs.declared.call.Reply.{Reply}
 use Rattle.session_core.specs.declared.call.Reply.TheVariants.{Done}
 use Rattle.session_core.specs.Space.{Space}
-use Rattle.session_core.specs.Requests.{verdict, is_success, granted, done, confirm, confirm_due, wrong_status}
+use Rattle.session_core.specs.Subscriptions.{Wanted, wanted_by}
+use Rattle.session_core.specs.Requests.{is_success, granted, subscribed, done_with}
 use Rattle.session_core.specs.Rings.{is_rung, ring_from, ring}
-use Rattle.session_core.specs.Steps.{with_links, queue, delivered, told, on_opened, step}
+use Rattle.session_core.specs.Queues.{with_links, queue}
+use Rattle.session_core.specs.Steps.{told, on_opened, step}
 use Rattle.session_core.specs.Ranks.{is_rung_since, ring_of}
 use Rattle.session_core.proofs.Changes.{link_at-place, changed-place, changed-none, changed-there}
 
@@ -96,37 +97,34 @@ told_same links number h =
 pub told_closed : (links : List Link) (number : ℕ) → is_open (state_of links number) ≡ false → ring links (changed lost links number) ≡ []
 told_closed links number h = closed_at links number (link_at links number) refl h
 
+subscribed_links : (space : Space) (link : ℕ) (heads : Heads) (wanted : Option Wanted) → (subscribed space link heads wanted).links ≡ space.links
+subscribed_links space link heads None = refl
+subscribed_links space link heads (Some wanted) = refl
+
 -- a request that is granted leaves the links
-granted_links : (space : Space) (heads : Heads) (ask : Ask) → (granted space heads ask).links ≡ space.links
-granted_links space heads Join = refl
-granted_links space heads Leave = refl
-granted_links space heads (Update remove insert confirm) = refl
-granted_links space heads (Query wish) = refl
-granted_links space heads (Subscribe wish) = refl
-granted_links space heads (Unsubscribe text) = refl
+granted_links : (space : Space) (link : ℕ) (heads : Heads) (ask : Ask) → (granted space link heads ask).links ≡ space.links
+granted_links space link heads Join = refl
+granted_links space link heads Leave = refl
+granted_links space link heads (Update remove insert confirm) = refl
+granted_links space link heads (Query wish) = refl
+granted_links space link heads (Subscribe wish) = subscribed_links space link heads (wanted_by wish)
+granted_links space link heads (Unsubscribe text) = refl
 
-either_links : (success : Bool) (space : Space) (heads : Heads) (ask : Ask) → (if success then granted space heads ask else space).links ≡ space.links
-either_links true space heads ask = granted_links space heads ask
-either_links false space heads ask = refl
+either_links : (success : Bool) (space : Space) (link : ℕ) (heads : Heads) (ask : Ask) → (if success then granted space link heads ask else space).links ≡ space.links
+either_links true space link heads ask = granted_links space link heads ask
+either_links false space link heads ask = refl
 
--- a request that is done leaves the links
-pub done_links : (space : Space) (request : asked.Request) → (done space request).links ≡ space.links
-done_links space request = either_links (is_success (verdict space request)) space request.heads request.ask
+-- a request that is done leaves the links, before anything is sent
+pub done_links : (space : Space) (link : ℕ) (request : asked.Request) (status : Status) → (done_with space link request status).links ≡ space.links
+done_links space link request status = either_links (is_success status) space link request.heads request.ask
 
-told_queued : (space new : Space) (link : ℕ) (due : Option (List ℕ)) → new.links ≡ space.links → state_of space.links link ≡ Open
+-- what is told where there may be a message to send on an open link
+pub told_queued : (space new : Space) (link : ℕ) (due : Option (List ℕ)) → new.links ≡ space.links → state_of space.links link ≡ Open
     → ring space.links (queue new link due).links ≡ ring_of (is_rung_since (queue new link due).links link (length (pending_of space.links link))) link
 told_queued space new link None e h =
     subst (λ links. ring space.links links ≡ ring_of (is_rung_since links link (length (pending_of space.links link))) link) (sym e) (told_same space.links link h)
 told_queued space new link (Some message) e h =
     told_changed (sent message) space.links (changed (sent message) new.links link) link h (ap (λ links. changed (sent message) links link) e)
-
--- what is told where a message came on an open link
-pub told_delivered : (space : Space) (link : ℕ) (arrived : Arrived) → state_of space.links link ≡ Open
-    → ring space.links (delivered space link arrived).links
-    ≡ ring_of (is_rung_since (delivered space link arrived).links link (length (pending_of space.links link))) link
-told_delivered space link NotRequest h = told_changed ended space.links _ link h refl
-told_delivered space link (Wrong heads status) h = told_queued space space link (Some (confirm heads (wrong_status space heads status))) refl h
-told_delivered space link (Request request) h = told_queued space (done space request) link (confirm_due space request) (done_links space request) h
 
 -- what is answered where an open link changed
 pub told_reply : (old new : Space) (link waited : ℕ) (reply : Reply) → state_of old.links link ≡ Open

@@ -1,16 +1,19 @@
 -- What holds of graphs after updates, and of runs.
-use Rattle.std.specs.Prelude.{◌≡◌, ◌⊎◌, ◌↔◌, ℕ, false, List, [], ◌∷◌, ◌++◌, length, Contains}
+use Rattle.std.specs.Prelude.{◌≡◌, ◌≢◌, ◌⊎◌, ◌↔◌, ℕ, false, List, [], ◌∷◌, ◌++◌, length, Contains}
 use Rattle.std.specs.List.Sorted.{IsStrictlySortedBy}
 use Rattle.m3_terms.specs.Order.{text_cmp, triple_cmp}
 use Rattle.m3_terms.specs.Pattern.{Fits}
 use Rattle.m3_terms.specs.declared.pattern.Pattern.{Pattern}
 use Rattle.m3_terms.specs.declared.triple.Triple.{Triple}
-use Rattle.link_table.specs.Links.{pending_of}
+use Rattle.link_table.specs.Links.{link_at, pending_of}
 use Rattle.ssap_shape.specs.declared.request.Ask.{Ask}
 use Rattle.ssap_shape.specs.declared.request.Ask.TheVariants.{Join, Leave, Update, Query, Subscribe, Unsubscribe}
 use Rattle.ssap_shape.specs.declared.request.Arrived.{Arrived}
 use Rattle.ssap_shape.specs.declared.request.Arrived.TheVariants.{Request, Wrong, NotRequest}
 use Rattle.session_core.specs.Graph.{graph_after, triples_of}
+use Rattle.session_core.specs.Space.{Space}
+use Rattle.session_core.specs.Subscriptions.{Subscription}
+use Rattle.session_core.specs.Steps.{delivered}
 use Rattle.session_core.specs.Runs.{run, updates, sent, taken, loses}
 use Rattle.session_core.specs.declared.call.Call.{Call}
 use Rattle.session_core.specs.declared.call.Call.TheVariants.{NewLink, Deliver, End, Lost, Take}
@@ -81,3 +84,9 @@ SentTakenWaiting = (name : List ℕ) (history : List Call) (number : ℕ) → lo
 -- on every link, lost or not, what was taken is a prefix of what was sent
 abbrev pub TakenOfSent : Type 0
 TakenOfSent = (name : List ℕ) (history : List Call) (number : ℕ) → (rest : List (List ℕ)) × (sent name history number ≡ taken name history number ++ rest)
+
+-- what comes on a link changes no other link but those of subscriptions
+abbrev pub OtherLinksStay : Type 0
+OtherLinksStay = (space : Space) (link : ℕ) (arrived : Arrived) (other : ℕ) → other ≢ link
+    → ((subscription : Subscription) → Contains space.subscriptions subscription → subscription.link ≢ other)
+    → link_at (delivered space link arrived).links other ≡ link_at space.links other

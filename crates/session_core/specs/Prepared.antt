@@ -1,12 +1,10 @@
 -- What is prepared of an update before it is made.
 use Rattle.std.specs.Prelude.{◌≡◌, ◌≢◌, ◌≤◌, ◌<◌, ◌⊎◌, ℕ, false, List, ◌++◌, length, filter_map, Contains, Some, None, slice_get}
-use Rattle.std.specs.List.{IsDistinct}
 use Rattle.std.specs.List.Sorted.{IsPermutation, IsStrictlySortedBy}
-use Rattle.m3_terms.specs.Order.{term_eq, triple_cmp}
+use Rattle.m3_terms.specs.Order.{triple_cmp}
 use Rattle.m3_terms.specs.declared.triple.Triple.{Triple}
 use Rattle.m3_terms.specs.declared.term.Term.{Term}
 use Rattle.m3_terms.specs.declared.pattern.Pattern.{Pattern}
-use Rattle.m3_intern.specs.Interned.{bytes_of_terms, fresh}
 use Rattle.triple_index.specs.Changes.{Net, AreOrdered, IsNet, changed}
 use Rattle.triple_index.specs.Fits.{fits as fits_ids}
 use Rattle.triple_index.specs.Graphs.{after}
@@ -29,14 +27,7 @@ use Rattle.ssap_shape.specs.declared.status.Status.TheVariants.{Success}
 use Rattle.ssap_shape.specs.declared.reply.Confirm.{Confirm}
 use Rattle.session_core.specs.Answers.{fitting, text_bytes, column_names}
 use Rattle.session_core.specs.Numbers.{Numbers, triples_in, graph_of, ids_of, pattern_in, bytes_in, made, CanBeMade}
-use Rattle.session_core.specs.Requests.{is_overfull, status_of_fault, confirm_bytes}
-
--- these are the new terms of patterns that are inserted, within the limit of named terms
-pub record IsDraft (old : Numbers) (insert : List Pattern) (terms : List Term) : Type 0 where
-  pub new : terms ≡ fresh old.terms (terms_of insert)
-  pub once : IsDistinct term_eq (old.terms ++ terms)
-  pub within : bytes_of_terms (old.terms ++ terms) ≤ 268435456
-  pub named : (term : Term) → Contains (terms_of insert) term → Contains (old.terms ++ terms) term
+use Rattle.session_core.specs.Requests.{is_overfull, status_of_fault}
 
 -- this is the net change of an update whose patterns have their numbers
 pub record IsChange (old : Numbers) (terms : List Term) (remove insert : List Pattern) (change : Net) : Type 0 where
@@ -97,7 +88,7 @@ pub record IsRefusal (fault : ReadFault) (status : Status) : Type 0 where
 abbrev pub answering : Heads → Answer → Confirm
 answering heads answer = record { heads = heads; status = Success; subscription = None; answer = Some answer }
 
--- this is a confirm as it is sent, no longer than a message may be
-pub record IsShortMessage (confirm : Confirm) (message : List ℕ) : Type 0 where
-  pub is : message ≡ confirm_bytes confirm
-  pub short : length (confirm_bytes confirm) ≤ 4194304
+-- this is a message of these bytes, no longer than a message may be
+pub record IsShort (bytes message : List ℕ) : Type 0 where
+  pub is : message ≡ bytes
+  pub short : length bytes ≤ 4194304

@@ -1,22 +1,21 @@
 -- What a request comes to in two steps: what refuses it before its query text and its limits are looked at, and then these.
-use Rattle.std.specs.Prelude.{◌≡◌, ℕ, ◌||◌, Bool, not, nat_lt, if◌then◌else◌, List, [], ◌∷◌, length, Some, refl}
+use Rattle.std.specs.Prelude.{◌≡◌, ℕ, ◌||◌, Bool, not, nat_le, nat_lt, ◌+◌, if◌then◌else◌, List, [], ◌∷◌, length, Some, refl}
 use Rattle.std.specs.Option.{option_or, unwrap_or}
 use Rattle.link_table.specs.Links.{Link, is_open, state_of, pending_of}
 use Rattle.ssap_items.specs.declared.heads.Heads.{Heads}
 use Rattle.answer_bodies.specs.declared.answer.Answer.{Answer}
-use Rattle.ssap_shape.specs.declared.status.Status.{Status}
 use Rattle.ssap_shape.specs.declared.status.Status.TheVariants.{Success, OutOfResources}
 use Rattle.ssap_shape.specs.declared.request.Ask.{Ask}
 use Rattle.ssap_shape.specs.declared.request.Request.{Request}
 use Rattle.session_core.specs.Space.{Space}
-use Rattle.session_core.specs.Requests.{unread, over, done_with, due_with, confirm, confirm_bytes}
+use Rattle.session_core.specs.Requests.{unread, over, is_overnamed, subscribed, confirm, confirm_bytes}
+use Rattle.session_core.specs.Subscriptions.{Wanted, answer_over, width_over}
+use Rattle.ssap_shape.specs.declared.reply.Confirm.{Confirm}
 use Rattle.session_core.specs.Prepared.{answering}
-use Rattle.session_core.specs.Steps.{queue}
+use Rattle.session_core.specs.Queues.{queue}
+use Rattle.session_core.specs.Steps.{decided}
 use Rattle.session_core.specs.declared.space.TheConstants.{NODE_LIMIT, TRIPLE_LIMIT, TERMS_LIMIT, CONFIRM_LIMIT}
-
--- the space after a request with this status, whose confirm is sent on its link
-abbrev pub decided : Space → ℕ → Request → Status → Space
-decided space link request status = queue (done_with space request status) link (due_with space request status)
+use Rattle.session_core.specs.declared.subscribing.TheConstants.{SUBSCRIPTION_LIMIT}
 
 -- the request of these heads
 abbrev pub asking : Heads → Ask → Request
@@ -36,6 +35,25 @@ answered space link heads answer =
 abbrev pub queried : Space → ℕ → Heads → ℕ → Answer → Space
 queried space link heads width answer =
     if nat_lt 65536 width then queue space link (Some (confirm heads OutOfResources)) else answered space link heads answer
+
+-- the confirm of a subscription of this number, with its first answer
+abbrev pub subscribed_under : ℕ → Heads → Answer → Confirm
+subscribed_under number heads answer = record { heads = heads; status = Success; subscription = Some number; answer = Some answer }
+
+-- the confirm of a subscription to this, with the next number and its first answer
+abbrev pub first_confirm : Space → Heads → Wanted → Confirm
+first_confirm space heads wanted = subscribed_under (space.numbered + 1) heads (answer_over space.graph wanted)
+
+-- a subscription to this is refused: 256 live, its terms are too many, its width too great, or its confirm too long
+abbrev pub is_refused : Space → Heads → Wanted → Bool
+is_refused space heads wanted = nat_le 256 (length space.subscriptions) || (is_overnamed space.named (Some wanted)
+    || (nat_lt 65536 (width_over space.graph wanted) || nat_lt 4194304 (length (confirm_bytes (first_confirm space heads wanted)))))
+
+-- the space after a subscription to this was asked for: it is made and answered, unless it is refused
+abbrev pub subscribing : Space → ℕ → Heads → Wanted → Space
+subscribing space link heads wanted =
+    if is_refused space heads wanted then queue space link (Some (confirm heads OutOfResources))
+    else queue (subscribed space link heads (Some wanted)) link (Some (confirm_bytes (first_confirm space heads wanted)))
 
 -- a link that was open and on which so many messages waited was sent one more, or is open no more
 abbrev pub is_rung_since : List Link → ℕ → ℕ → Bool
@@ -60,3 +78,7 @@ terms_limit = refl
 -- the most bytes of a confirm that brings an answer
 confirm_limit : CONFIRM_LIMIT ≡ 4194304
 confirm_limit = refl
+
+-- the most subscriptions that may live
+subscription_limit : SUBSCRIPTION_LIMIT ≡ 256
+subscription_limit = refl

@@ -1,5 +1,5 @@
 -- What a request comes to: the first rank that refuses it decides, and else it is done.
-use Rattle.std.specs.Prelude.{ℕ, Bool, true, false, ◌&&◌, ◌||◌, not, nat_le, nat_lt, if◌then◌else◌, List, [], ◌∷◌, ◌++◌, length, is_none, Option, Some, None, Result, Ok, Err}
+use Rattle.std.specs.Prelude.{ℕ, ◌+◌, Bool, true, false, ◌&&◌, ◌||◌, not, nat_le, nat_lt, if◌then◌else◌, filter, List, [], ◌∷◌, ◌++◌, length, is_none, Option, Some, None, Result, Ok, Err}
 use Rattle.std.specs.List.{list_any}
 use Rattle.std.specs.Option.{option_or, unwrap_or}
 use Rattle.std.specs.Str.{bytes_eq}
@@ -27,6 +27,7 @@ use Rattle.sparql_read.specs.Reading.{reading_of}
 use Rattle.session_core.specs.Space.{Space, is_member, with_node, without_node, updated}
 use Rattle.session_core.specs.Graph.{graph_after, terms_of, with_named}
 use Rattle.session_core.specs.Answers.{answer_to, width_of}
+use Rattle.session_core.specs.Subscriptions.{Wanted, wanted_by, constants_in, is_named}
 
 -- a message is for this space
 abbrev pub is_for : Space → Heads → Bool
@@ -41,27 +42,19 @@ is_stranger space heads (Query wish) = not (is_member space heads.node_id)
 is_stranger space heads (Subscribe wish) = not (is_member space heads.node_id)
 is_stranger space heads (Unsubscribe text) = not (is_member space heads.node_id)
 
--- what is asked for is built: to join, to leave, to update and to query
-abbrev pub is_built : Ask → Bool
-is_built Join = true
-is_built Leave = true
-is_built (Update remove insert confirm) = true
-is_built (Query wish) = true
-is_built (Subscribe wish) = false
-is_built (Unsubscribe text) = false
-
 -- a pattern is no triple: it has a wildcard, or a literal where a uri belongs
 abbrev pub is_no_triple : Pattern → Bool
 is_no_triple pattern = is_none (triple_of pattern)
 
--- what is asked for can't be done for what it says: something to insert is no triple
-abbrev pub is_unfit : Ask → Bool
-is_unfit Join = false
-is_unfit Leave = false
-is_unfit (Update remove insert confirm) = list_any is_no_triple insert
-is_unfit (Query wish) = false
-is_unfit (Subscribe wish) = false
-is_unfit (Unsubscribe text) = false
+-- what is asked for can't be done for what it says: something to insert is no triple, or no subscription of the node has
+-- this number
+abbrev pub is_unfit : Space → Heads → Ask → Bool
+is_unfit space heads Join = false
+is_unfit space heads Leave = false
+is_unfit space heads (Update remove insert confirm) = list_any is_no_triple insert
+is_unfit space heads (Query wish) = false
+is_unfit space heads (Subscribe wish) = false
+is_unfit space heads (Unsubscribe text) = not (list_any (is_named heads.node_id text) space.subscriptions)
 
 -- the status that tells why a text says no query; no text comes to `NoMemory`
 abbrev pub status_of_fault : ReadFault → Status
@@ -86,7 +79,7 @@ text_refusal Join = None
 text_refusal Leave = None
 text_refusal (Update remove insert confirm) = None
 text_refusal (Query wish) = wish_refusal wish
-text_refusal (Subscribe wish) = None
+text_refusal (Subscribe wish) = wish_refusal wish
 text_refusal (Unsubscribe text) = None
 
 -- an update would pass a limit: of 262,144 triples after it, or of 268,435,456 bytes of named terms, each counted as the
@@ -95,22 +88,27 @@ abbrev pub is_overfull : List Triple → List Term → List Pattern → List Pat
 is_overfull graph named remove insert =
     nat_lt 262144 (length (graph_after graph remove insert)) || nat_lt 268435456 (bytes_of_terms (with_named named (terms_of insert)))
 
--- the number of the subscription that a request makes where it is granted: no request makes one yet
+-- what is asked for names terms beyond the limit, counted as those of updates are
+abbrev pub is_overnamed : List Term → Option Wanted → Bool
+is_overnamed named None = false
+is_overnamed named (Some wanted) = nat_lt 268435456 (bytes_of_terms (with_named named (constants_in wanted)))
+
+-- the number of the subscription that a request makes where it is granted: the next one
 abbrev pub subscription_for : Space → Ask → Option ℕ
 subscription_for space Join = None
 subscription_for space Leave = None
 subscription_for space (Update remove insert confirm) = None
 subscription_for space (Query wish) = None
-subscription_for space (Subscribe wish) = None
+subscription_for space (Subscribe wish) = Some (space.numbered + 1)
 subscription_for space (Unsubscribe text) = None
 
--- the answer that a request gets where it is granted: a query gets that of its wish
+-- the answer that a request gets where it is granted: a query gets that of its wish, and a subscription the first one
 abbrev pub answer_for : Space → Ask → Option Answer
 answer_for space Join = None
 answer_for space Leave = None
 answer_for space (Update remove insert confirm) = None
 answer_for space (Query wish) = answer_to space.graph wish
-answer_for space (Subscribe wish) = None
+answer_for space (Subscribe wish) = answer_to space.graph wish
 answer_for space (Unsubscribe text) = None
 
 -- a confirm as it is sent
@@ -125,17 +123,21 @@ bare heads status = record { heads = heads; status = status; subscription = None
 abbrev pub granting : Space → Heads → Ask → Confirm
 granting space heads ask = record { heads = heads; status = Success; subscription = subscription_for space ask; answer = answer_for space ask }
 
--- a query would pass a limit: its width is more than 65,536, or its confirm more than 4,194,304 bytes
-abbrev pub is_wide : Space → Heads → Wish → Bool
-is_wide space heads wish = nat_lt 65536 (width_of space.graph wish) || nat_lt 4194304 (length (confirm_bytes (granting space heads (Query wish))))
+-- an answer would pass a limit: the width is more than 65,536, or the confirm has more than 4,194,304 bytes
+abbrev pub is_wide : Space → Heads → Ask → Wish → Bool
+is_wide space heads ask wish = nat_lt 65536 (width_of space.graph wish) || nat_lt 4194304 (length (confirm_bytes (granting space heads ask)))
 
--- what is asked for would pass a limit: of 4,096 joined nodes, or one of an update or of a query
+-- a subscription would pass a limit: 256 live, its terms are too many, or its first answer passes one
+abbrev pub is_crowded : Space → Heads → Wish → Bool
+is_crowded space heads wish = nat_le 256 (length space.subscriptions) || (is_overnamed space.named (wanted_by wish) || is_wide space heads (Subscribe wish) wish)
+
+-- what is asked for would pass a limit: of 4,096 joined nodes, or one of an update, of a query or of a subscription
 abbrev pub is_over : Space → Heads → Ask → Bool
 is_over space heads Join = not (is_member space heads.node_id) && nat_le 4096 (length space.joined)
 is_over space heads Leave = false
 is_over space heads (Update remove insert confirm) = is_overfull space.graph space.named remove insert
-is_over space heads (Query wish) = is_wide space heads wish
-is_over space heads (Subscribe wish) = false
+is_over space heads (Query wish) = is_wide space heads (Query wish) wish
+is_over space heads (Subscribe wish) = is_crowded space heads wish
 is_over space heads (Unsubscribe text) = false
 
 -- a rank: the status with which it refuses a request to a space, if it does
@@ -154,13 +156,9 @@ elsewhere space request = refuse (not (is_for space request.heads)) BadRequest
 abbrev pub denied : Rank
 denied space request = refuse (is_stranger space request.heads request.ask) AccessDenied
 
--- it asks for what isn't built
-abbrev pub unbuilt : Rank
-unbuilt space request = refuse (not (is_built request.ask)) NotImplemented
-
 -- it says what can't be done
 abbrev pub unfit : Rank
-unfit space request = refuse (is_unfit request.ask) BadRequest
+unfit space request = refuse (is_unfit space request.heads request.ask) BadRequest
 
 -- its query text says no query
 abbrev pub unread : Rank
@@ -172,7 +170,7 @@ over space request = refuse (is_over space request.heads request.ask) OutOfResou
 
 -- the ranks before query texts and limits, in the order in which they decide
 abbrev pub early_ranks : List Rank
-early_ranks = elsewhere ∷ denied ∷ unbuilt ∷ unfit ∷ []
+early_ranks = elsewhere ∷ denied ∷ unfit ∷ []
 
 -- all ranks, in the order in which they decide
 abbrev pub ranks : List Rank
@@ -197,23 +195,44 @@ is_success BadRequest = false
 is_success Incomplete = false
 is_success Syntax = false
 
--- the space after a request that was granted: its node is joined, or has left, or its update was made
-abbrev pub granted : Space → Heads → Ask → Space
-granted space heads Join = with_node space heads.node_id
-granted space heads Leave = without_node space heads.node_id
-granted space heads (Update remove insert confirm) =
+-- the space after a subscription was made for a node on a link: it has the next number, and its terms are named
+abbrev pub subscribed : Space → ℕ → Heads → Option Wanted → Space
+subscribed space link heads None = space
+subscribed space link heads (Some wanted) = record space {
+  subscriptions = space.subscriptions ++ record {
+    number = space.numbered + 1;
+    link = link;
+    node = heads.node_id;
+    transaction = heads.transaction_id;
+    wanted = wanted;
+    sequence = 0;
+  } ∷ [];
+  numbered = space.numbered + 1;
+  named = with_named space.named (constants_in wanted);
+}
+
+-- the space after a node ended its subscription of this number
+abbrev pub unsubscribed : Space → Heads → List ℕ → Space
+unsubscribed space heads text = record space { subscriptions = filter (λ subscription. not (is_named heads.node_id text subscription)) space.subscriptions }
+
+-- the space after a request on a link was granted: its node is joined, or has left, its update was made, or its subscription
+-- was made or has ended
+abbrev pub granted : Space → ℕ → Heads → Ask → Space
+granted space link heads Join = with_node space heads.node_id
+granted space link heads Leave = without_node space heads.node_id
+granted space link heads (Update remove insert confirm) =
     updated space (graph_after space.graph remove insert) (with_named space.named (terms_of insert))
-granted space heads (Query wish) = space
-granted space heads (Subscribe wish) = space
-granted space heads (Unsubscribe text) = space
+granted space link heads (Query wish) = space
+granted space link heads (Subscribe wish) = subscribed space link heads (wanted_by wish)
+granted space link heads (Unsubscribe text) = unsubscribed space heads text
 
 -- the space after a request with this status, before anything is sent: what is refused changes nothing
-abbrev pub done_with : Space → Request → Status → Space
-done_with space request status = if is_success status then granted space request.heads request.ask else space
+abbrev pub done_with : Space → ℕ → Request → Status → Space
+done_with space link request status = if is_success status then granted space link request.heads request.ask else space
 
 -- the space after a request, before anything is sent
-abbrev pub done : Space → Request → Space
-done space request = done_with space request (verdict space request)
+abbrev pub done : Space → ℕ → Request → Space
+done space link request = done_with space link request (verdict space request)
 
 -- the request wants no confirm of success
 abbrev pub is_silent : Ask → Bool

@@ -1,6 +1,7 @@
 -- Which links a step is told of.
 use Rattle.std.specs.Prelude.{◌≡◌, ℕ, ◌+◌, Bool, ◌&&◌, ◌||◌, not, nat_lt, if◌then◌else◌, List, [], ◌∷◌, ◌++◌, length, codes, refl}
-use Rattle.link_table.specs.Links.{Link, is_open, new_link, changed, sent, ended}
+use Rattle.link_table.specs.Links.{Link, is_open, state_of, pending_of, new_link, changed, sent, ended}
+use Rattle.link_table.specs.declared.open_link.OpenLink.{OpenLink}
 
 -- a link was open, and was sent a message or is open no more
 abbrev pub is_rung : Link → Link → Bool
@@ -15,6 +16,10 @@ ring_from number (one ∷ before) (other ∷ after) = (if is_rung one other then
 -- the links that were sent a message or ended, by rising number
 abbrev pub ring : List Link → List Link → List ℕ
 ring before after = ring_from 1 before after
+
+-- a link that was open with so many messages waiting was sent one more, or is open no more
+abbrev pub is_rung_link : List Link → OpenLink → Bool
+is_rung_link links before = not (is_open (state_of links before.number)) || nat_lt before.waiting (length (pending_of links before.number))
 
 -- of three links the second is sent a message and the third ends
 example_ring : ring (new_link ∷ new_link ∷ new_link ∷ []) (changed (sent (codes "a")) (changed ended (new_link ∷ new_link ∷ new_link ∷ []) 3) 2) ≡ 2 ∷ 3 ∷ []

@@ -1,12 +1,16 @@
 -- One step of a space: what a call answers, and the space after it.
 use Rattle.std.specs.Prelude.{ℕ, ◌+◌, if◌then◌else◌, List, [], ◌∷◌, ◌++◌, length, Option, Some, None, ⊤}
-use Rattle.link_table.specs.Links.{Link, new_link, sent, ended, lost, taken, changed, link_at, state_of, is_full, counted}
+use Rattle.link_table.specs.Links.{Link, new_link, ended, lost, taken, changed, link_at, state_of, is_full, counted}
 use Rattle.link_table.specs.declared.state.LinkState.{LinkState}
 use Rattle.link_table.specs.declared.state.LinkState.TheVariants.{Never, Open, Ended, Overrun, Gone}
 use Rattle.ssap_shape.specs.declared.request.Arrived.{Arrived}
 use Rattle.ssap_shape.specs.declared.request.Arrived.TheVariants.{Request, Wrong, NotRequest}
 use Rattle.session_core.specs.Space.{Space, State}
-use Rattle.session_core.specs.Requests.{done, confirm, confirm_due, wrong_status}
+use Rattle.ssap_shape.specs.declared.request.Request.{Request as Asked}
+use Rattle.ssap_shape.specs.declared.status.Status.{Status}
+use Rattle.session_core.specs.Requests.{done_with, due_with, verdict, confirm, wrong_status}
+use Rattle.session_core.specs.Queues.{with_links, queue}
+use Rattle.session_core.specs.Following.{follow_with}
 use Rattle.session_core.specs.Rings.{ring}
 use Rattle.session_core.specs.declared.call.Call.{Call}
 use Rattle.session_core.specs.declared.call.Call.TheVariants.{NewLink, Deliver, End, Lost, Take}
@@ -18,21 +22,16 @@ pub record Step : Type 0 where
   pub space : Space
   pub reply : Reply
 
--- the space with other links: the one way in which a step changes them
-abbrev pub with_links : Space → List Link → Space
-with_links space links = record space { links = links }
+-- the space after a request with this status, whose confirm is sent on its link once it has taken effect, and then what
+-- follows from it
+abbrev pub decided : Space → ℕ → Asked → Status → Space
+decided space link request status = follow_with space request status (queue (done_with space link request status) link (due_with space request status))
 
--- a link is sent a message, if there is one to send
-abbrev pub queue : Space → ℕ → Option (List ℕ) → Space
-queue space link None = space
-queue space link (Some message) = with_links space (changed (sent message) space.links link)
-
--- the space after a message came on an open link: what is no request ends the link, and else the confirm is sent on it once
--- the request has taken effect
+-- the space after a message came on an open link: what is no request ends the link
 abbrev pub delivered : Space → ℕ → Arrived → Space
 delivered space link NotRequest = with_links space (changed ended space.links link)
 delivered space link (Wrong heads status) = queue space link (Some (confirm heads (wrong_status space heads status)))
-delivered space link (Request request) = queue (done space request) link (confirm_due space request)
+delivered space link (Request request) = decided space link request (verdict space request)
 
 -- nothing changes, and this is answered
 abbrev pub unchanged : Space → Reply → Step
@@ -102,6 +101,6 @@ IsLean (End link) = ⊤
 IsLean (Lost link) = ⊤
 IsLean (Take link) = ⊤
 
--- the subscriptions that live: no request makes one yet
+-- how many subscriptions live
 abbrev pub live_subscriptions : Space → ℕ
-live_subscriptions space = 0
+live_subscriptions space = length space.subscriptions

@@ -29,7 +29,7 @@ use std::sync::ledger::Ledger;
 use triple_index::View;
 
 // The status that refuses a text for a fault, or `None` where memory ran out.
-fn refusal(fault: ReadFault) -> Option<Status>
+pub(crate) fn refusal(fault: ReadFault) -> Option<Status>
     ensures { MatchOption result (fault ≡ faults.NoMemory) (IsRefusal fault) }
 {
     match fault {
@@ -51,7 +51,7 @@ fn name_of(names: &Columns, var: Var) -> Result<Text, NoMemory>
 }
 
 // The names of the columns of a query, in their order.
-fn column_names(alloc: Global, query: &Query) -> Result<Columns, NoMemory>
+pub(crate) fn column_names(alloc: Global, query: &Query) -> Result<Columns, NoMemory>
     requires { AllByRecursion (IsNamed (length query.now.names)) query.now.columns }
     ensures { IfOk result (λ names. names ≡ names_of query.now) }
 {

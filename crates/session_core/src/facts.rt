@@ -1,13 +1,14 @@
 //! The facts of a space: the triples of its graph by numbers, and the terms that have them.
 ghost use Rattle.std.specs.Prelude.{◌≡◌, ◌+◌, ◌≤◌, ◌<◌, ◌↔◌, [], false, IsTrue, IfOk, IfErr, OnOk, OnErr, MatchOption, Contains, length};
 ghost use Rattle.std.specs.List.{list_any};
+ghost use Rattle.session_core.specs.Watches.{IsNamedBy};
 ghost use Rattle.m3_intern.specs.Interned.{bytes_of_terms};
 ghost use Rattle.triple_index.specs.Changes.{IsNet, changed};
 ghost use Rattle.triple_index.specs.Graphs.{count_fitting};
 ghost use Rattle.session_core.specs.Graph.{fits, terms_of as terms_in, with_named};
 ghost use Rattle.session_core.specs.Numbers.{graph_of, number_in, ids_of_triple, made, CanBeMade};
 ghost use Rattle.session_core.specs.Requests.{is_no_triple, is_overfull};
-ghost use Rattle.session_core.specs.Prepared.{IsUpdateOf, IsDraft, IsChange, IsAnswer, IsMeant, IsUnanswerable, AreMatching};
+ghost use Rattle.session_core.specs.Prepared.{IsUpdateOf, IsChange, IsAnswer, IsMeant, IsUnanswerable, AreMatching};
 ghost use Rattle.pattern_join.specs.Answers.{IsOverwide};
 ghost use Rattle.session_core.specs.Answers.{fitting};
 ghost use Rattle.triple_index.specs.Changes.{AreOrdered};
@@ -18,7 +19,7 @@ use crate::space::{CONFIRM_LIMIT, TRIPLE_LIMIT};
 use crate::texts::texts_exceed;
 use answer_bodies::Answer;
 use m3_intern::{Draft, InternFault, Interner};
-use m3_terms::{NoMemory, Patterns, Steps, Term, TermId, TermTable, Triple};
+use m3_terms::{NoMemory, Patterns, Steps, Term, TermId, TermList, TermTable, Triple};
 use pattern_join::{EvalFault, matches, rows_of};
 use std::alloc::Global;
 use std::marker::Model;
@@ -46,8 +47,8 @@ impl Model for Facts {
 /// An update that is ready to be made: its new terms, and its change of the graph.
 #[derive(Drop)]
 pub(crate) struct Update {
-    draft: Draft,
-    change: Change,
+    pub draft: Draft,
+    pub change: Change,
 }
 
 // Whether a graph would have too many triples after a change that is net for it.
@@ -107,11 +108,11 @@ impl Facts {
         }
     }
 
-    // The new terms of patterns, or `None` where the named terms would pass their limit.
-    fn draft(&self, alloc: Global, insert: &Patterns) -> Result<Option<Draft>, NoMemory>
-        ensures { IfOk result (λ found. MatchOption found (268435456 < bytes_of_terms (with_named self.now.terms (terms_in insert.now))) (IsDraft self.now insert.now)) }
+    /// The new ones of some terms, or `None` where the named terms would pass their limit.
+    pub fn draft(&self, wanted: TermList) -> Result<Option<Draft>, NoMemory>
+        ensures { IfOk result (λ found. MatchOption found (268435456 < bytes_of_terms (with_named self.now.terms wanted)) (IsNamedBy self.now wanted)) }
     {
-        match self.terms.draft(terms_of(alloc, insert.as_slice())?) {
+        match self.terms.draft(wanted) {
             Ok(draft) => Ok(Some(draft)),
             Err(InternFault::Full { .. }) => Ok(None),
             Err(InternFault::NoMemory) => Err(NoMemory),
@@ -127,7 +128,7 @@ impl Facts {
         insert: &Patterns,
         steps: &mut Steps<L>,
     ) -> Result<Change, NoMemory>
-        requires { IsDraft self.now insert.now draft.now }
+        requires { IsNamedBy self.now (terms_in insert.now) draft.now }
         ensures change { IfOk result (IsChange self.now draft.now remove.now insert.now) }
         ensures reads { steps.new ≤ steps.old + count_fitting fits (graph_of self.now) remove.now }
     {
@@ -150,7 +151,7 @@ impl Facts {
         ensures update { IfOk result (λ found. MatchOption found (IsTrue (is_overfull (graph_of self.now) self.now.terms remove.now insert.now)) (λ update. IsUpdateOf self.now remove.now insert.now update.draft update.change)) }
         ensures reads { steps.new ≤ steps.old + count_fitting fits (graph_of self.now) remove.now }
     {
-        let Some(draft) = self.draft(alloc, insert)? else {
+        let Some(draft) = self.draft(terms_of(alloc, insert.as_slice())?)? else {
             return Ok(None);
         };
         let change = self.net(alloc, &draft, remove, insert, steps)?;

@@ -1,6 +1,8 @@
 //! Laws of graphs and of runs. Each function does nothing: its contract is the law.
 
-ghost use Rattle.session_core.specs.Laws.{UpdatesAreExact, UpdatesKeepOrder, NameStays, NodesInOrder, TriplesInOrder, UpdatesCounted, GraphOfUpdates, SentTakenWaiting, TakenOfSent};
+ghost use Rattle.session_core.specs.Laws.{UpdatesAreExact, UpdatesKeepOrder, NameStays, NodesInOrder, TriplesInOrder, UpdatesCounted, GraphOfUpdates, SentTakenWaiting, TakenOfSent, OtherLinksStay};
+ghost use Rattle.session_core.specs.Watching.{AnswersAreFollowed};
+ghost use Rattle.session_core.specs.Indicated.{ChangesAreSent};
 
 /// After an update a graph has the triples that were inserted, and those that it had and that fit no removed pattern, in
 /// order and each once.
@@ -30,4 +32,21 @@ pub fn messages_stay_in_order()
 /// On every link, lost or not, what was taken is a prefix of what was sent.
 pub fn taken_is_a_prefix_of_sent()
     ensures { TakenOfSent }
+{}
+
+/// Whatever the history, each subscription that lives was followed: it began once, its changes are numbered 1, 2, 3 and so
+/// on, none is empty, none has a row both added and obsolete, and folded over its first answer they give its answer over the
+/// graph.
+pub fn answers_are_followed()
+    ensures { AnswersAreFollowed }
+{}
+
+/// Whatever the history, the changes that a subscription that lives was told were sent on its link, in their order.
+pub fn changes_are_sent()
+    ensures { ChangesAreSent }
+{}
+
+/// What comes on a link changes no other link but those of subscriptions.
+pub fn other_links_stay()
+    ensures { OtherLinksStay }
 {}

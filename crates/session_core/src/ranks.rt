@@ -1,9 +1,10 @@
 //! What refuses a request, in the order in which it decides.
-ghost use Rattle.std.specs.Prelude.{◌≡◌, ◌+◌, ◌≤◌, ◌<◌, ◌^◌, None, OnOk, OnErr};
+ghost use Rattle.std.specs.Prelude.{◌≡◌, ◌+◌, ◌≤◌, ◌<◌, ◌^◌, true, None, OnOk, OnErr};
 ghost use Rattle.std.specs.List.{list_any};
+ghost use Rattle.link_table.specs.Links.{is_open, state_of};
 ghost use Rattle.ssap_shape.specs.declared.request.Arrived.TheVariants as arrived;
 ghost use Rattle.session_core.specs.Space.{is_member};
-ghost use Rattle.session_core.specs.Requests.{is_for as is_for_it, is_stranger as stranger, is_built as built, is_no_triple as no_triple, is_unfit as unfit, wrong_status as wrong, first_of, early_ranks};
+ghost use Rattle.session_core.specs.Requests.{is_for as is_for_it, is_stranger as stranger, is_no_triple as no_triple, is_unfit as unfit, wrong_status as wrong, first_of, early_ranks};
 ghost use Rattle.session_core.specs.Steps.{delivered};
 ghost use Rattle.session_core.specs.Ranks.{asking, passed};
 ghost use Rattle.session_core.specs.Reads.{ask_cost};
@@ -14,15 +15,6 @@ use ssap_items::Heads;
 use ssap_shape::{Ask, Request, Status};
 use std::alloc::Global;
 use std::sync::ledger::Ledger;
-
-fn is_built(ask: &Ask) -> bool
-    ensures { result ≡ built ask.now }
-{
-    match ask {
-        Ask::Join | Ask::Leave | Ask::Update { .. } | Ask::Query(_) => true,
-        Ask::Subscribe(_) | Ask::Unsubscribe(_) => false,
-    }
-}
 
 fn is_no_triple(pattern: &Pattern) -> bool
     ensures { result ≡ no_triple pattern.now }
@@ -40,15 +32,6 @@ fn has_no_triple(patterns: &Patterns) -> bool
         .as_slice()
         .iter()
         .any(|pattern| is_no_triple(pattern))
-}
-
-fn is_unfit(ask: &Ask) -> bool
-    ensures { result ≡ unfit ask.now }
-{
-    match ask {
-        Ask::Update { insert, .. } => has_no_triple(insert),
-        Ask::Join | Ask::Leave | Ask::Query(_) | Ask::Subscribe(_) | Ask::Unsubscribe(_) => false,
-    }
 }
 
 impl Store {
@@ -78,6 +61,16 @@ impl Store {
         }
     }
 
+    fn is_unfit(&self, heads: &Heads, ask: &Ask) -> bool
+        ensures { result ≡ unfit self.now heads.now ask.now }
+    {
+        match ask {
+            Ask::Update { insert, .. } => has_no_triple(insert),
+            Ask::Unsubscribe(text) => !self.has_named(&heads.node_id, text),
+            Ask::Join | Ask::Leave | Ask::Query(_) | Ask::Subscribe(_) => false,
+        }
+    }
+
     /// The status of a message that is wrong by itself, unless it is for another space.
     pub fn wrong_status(&self, heads: &Heads, status: Status) -> Status
         ensures { result ≡ wrong self.now heads.now status }
@@ -97,9 +90,7 @@ impl Store {
             Some(Status::Request)
         } else if self.is_stranger(&request.heads, &request.ask) {
             Some(Status::AccessDenied)
-        } else if !is_built(&request.ask) {
-            Some(Status::NotImplemented)
-        } else if is_unfit(&request.ask) {
+        } else if self.is_unfit(&request.heads, &request.ask) {
             Some(Status::Request)
         } else {
             None
@@ -114,10 +105,12 @@ impl Store {
         request: Request,
         steps: &mut Steps<L>,
     ) -> Result<(), NoMemory>
-        requires { self.old.updates < 2 ^ 62 }
+        requires updates { self.old.updates < 2 ^ 62 }
+        requires numbers { self.old.numbered < 2 ^ 62 }
+        requires open { is_open (state_of self.old.links link) ≡ true }
         ensures space { OnOk result (self.new ≡ delivered self.old link (arrived.Request request)) }
         ensures err { OnErr result (self.new ≡ self.old) }
-        ensures cost { steps.new ≤ steps.old + ask_cost self.old.graph request.ask }
+        ensures cost { steps.new ≤ steps.old + ask_cost self.old request.ask }
     {
         match self.refusal(&request) {
             Some(status) => self.answer(alloc, link, request.heads, status),
@@ -135,10 +128,12 @@ impl Store {
         steps: &mut Steps<L>,
     ) -> Result<(), NoMemory>
         requires passes { first_of early_ranks self.old (asking heads ask) ≡ None }
-        requires few { self.old.updates < 2 ^ 62 }
+        requires updates { self.old.updates < 2 ^ 62 }
+        requires numbers { self.old.numbered < 2 ^ 62 }
+        requires open { is_open (state_of self.old.links link) ≡ true }
         ensures space { OnOk result (self.new ≡ passed self.old link heads ask) }
         ensures err { OnErr result (self.new ≡ self.old) }
-        ensures cost { steps.new ≤ steps.old + ask_cost self.old.graph ask }
+        ensures cost { steps.new ≤ steps.old + ask_cost self.old ask }
     {
         match ask {
             Ask::Join => self.join(alloc, link, heads),
@@ -149,7 +144,8 @@ impl Store {
                 confirm,
             } => self.update(alloc, link, heads, &remove, &insert, confirm, steps),
             Ask::Query(wish) => self.query(alloc, link, heads, &wish, steps),
-            Ask::Subscribe(_) | Ask::Unsubscribe(_) => unreachable!(),
+            Ask::Subscribe(wish) => self.subscribe(alloc, link, heads, wish, steps),
+            Ask::Unsubscribe(text) => self.unsubscribe(alloc, link, heads, &text),
         }
     }
 }

@@ -1,8 +1,18 @@
-ghost use Rattle.std.specs.Prelude.{◌≡◌, [], ◌∷◌, length, slice_get, option_copied};
+ghost use Rattle.std.specs.Prelude.{◌≡◌, ◌≤◌, [], ◌∷◌, length, map, filter, slice_get, option_copied};
+ghost use Rattle.session_core.specs.Rings.{is_rung_link};
 
+use link_table::{LinkState, Links, OpenLink};
 use smallvec::SmallVec;
 use std::alloc::Global;
 use std::marker::Model;
+
+// Whether a link that was open was sent a message since, or is open no more.
+fn is_rung(links: &Links, before: &OpenLink) -> bool
+    ensures { result ≡ is_rung_link links.now before.now }
+{
+    !matches!(links.state(before.number), LinkState::Open)
+        || before.waiting < links.waiting(before.number)
+}
 
 /// The numbers of links, by rising number. Up to four take no memory.
 #[derive(Debug, Drop)]
@@ -40,6 +50,21 @@ impl Ring {
         let mut links = SmallVec::new(alloc);
         links.push_reserved(link);
         Ring { links }
+    }
+
+    // Those of some links that were sent a message since, or are open no more. There is room for them, so it takes no memory.
+    pub(crate) fn since(links: &Links, before: &[OpenLink], room: SmallVec<u32, 4>) -> Ring
+        requires none { room.items ≡ [] }
+        requires enough { length before.now ≤ room.capacity }
+        ensures { result ≡ map (λ link. link.number) (filter (is_rung_link links.now) before.now) }
+    {
+        let mut rung = room;
+        for link in before {
+            if is_rung(links, link) {
+                rung.push_reserved(link.number);
+            }
+        }
+        Ring { links: rung }
     }
 
     // No links. It takes no memory.

@@ -37,12 +37,16 @@ pub struct Core {
 impl Model for Core {
     ghost use Rattle.std.specs.Prelude.{◌≤◌};
     ghost use Rattle.session_core.specs.Space.{State};
+    ghost use Rattle.sparql_algebra.specs.contracts.algebra.Algebra as algebra;
+    ghost use Rattle.std.specs.Coded.{codes};
 
     ghost Value = { State };
 
+    ghost coded = { Prim.hlevel (codes, algebra.the_row.coded) };
+
     ghost view = { λ c. record { space = c.store; count = c.count } };
 
-    ghost invariant = { λ c. c.store.updates ≤ c.count };
+    ghost invariant = { λ c. (c.store.updates ≤ c.count) × (c.store.numbered ≤ c.count) };
 }
 
 impl Core {
@@ -133,7 +137,7 @@ impl Core {
     pub fn subscriptions(&self) -> u64
         ensures { result ≡ live_subscriptions self.now.space }
     {
-        0
+        self.store.living() as u64
     }
 
     /// Whether the graph has a triple.

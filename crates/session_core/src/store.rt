@@ -1,21 +1,25 @@
 //! The space as it is kept, and what a call does to it.
-ghost use Rattle.std.specs.Prelude.{◌≡◌, ◌+◌, ◌≤◌, ◌<◌, ◌^◌, [], IfOk, OnOk, OnErr, IsOk, length};
-ghost use Rattle.link_table.specs.Links.{state_of, pending_of};
+ghost use Rattle.std.specs.Prelude.{◌≡◌, ◌+◌, ◌≤◌, ◌<◌, ◌^◌, [], true, IfOk, OnOk, OnErr, IsOk, length};
+ghost use Rattle.link_table.specs.Links.{is_open, state_of, pending_of};
 ghost use Rattle.ssap_shape.specs.declared.request.Arrived.TheVariants as arrived;
 ghost use Rattle.session_core.specs.Space.{empty_space};
 ghost use Rattle.session_core.specs.Requests.{confirm};
-ghost use Rattle.session_core.specs.Steps.{step, queue, delivered, idle as idle_of, IsLean};
+ghost use Rattle.session_core.specs.Queues.{queue};
+ghost use Rattle.session_core.specs.Steps.{step, delivered, idle as idle_of, IsLean};
 ghost use Rattle.session_core.specs.Ranks.{is_rung_since, ring_of};
 ghost use Rattle.session_core.specs.Reads.{arrived_cost, cost as rows_of};
 ghost use Rattle.session_core.specs.declared.call.Call.TheVariants as calls;
 ghost use Rattle.session_core.specs.declared.call.Reply.TheVariants as replies;
 
 use crate::confirm::{bare, confirm_message};
+use crate::entry::Entry;
 use crate::facts::Facts;
+use crate::telling::sweep;
 use crate::{Call, Reply, Ring};
 use link_table::{LinkState, Links, Message};
 use m3_intern::Interner;
 use m3_terms::{NoMemory, Steps, Text};
+use smallvec::SmallVec;
 use ssap_items::Heads;
 use ssap_shape::{Arrived, Status};
 use std::alloc::Global;
@@ -31,18 +35,27 @@ pub(crate) struct Store {
     pub links: Links,
     pub facts: Facts,
     pub updates: u64,
+    /// The subscriptions by rising number, of which some may have ended.
+    pub entries: Vec<Entry>,
+    /// The last number that was given to a subscription.
+    pub numbered: u64,
 }
 
 impl Model for Store {
     ghost use Rattle.session_core.specs.Space.{Space};
+    ghost use Rattle.session_core.specs.Entries.{living, AreEntries};
     ghost use Rattle.session_core.specs.Kept.{IsKept};
     ghost use Rattle.session_core.specs.Numbers.{graph_of};
+    ghost use Rattle.sparql_algebra.specs.contracts.algebra.Algebra as algebra;
+    ghost use Rattle.std.specs.Coded.{codes};
 
     ghost Value = { Space };
 
-    ghost view = { λ s. record { name = s.name; joined = s.joined.keys; links = s.links; graph = graph_of s.facts; named = s.facts.terms; updates = s.updates } };
+    ghost coded = { Prim.hlevel (codes, algebra.the_row.coded) };
 
-    ghost invariant = { λ s. IsKept (record { name = s.name; joined = s.joined.keys; links = s.links; graph = graph_of s.facts; named = s.facts.terms; updates = s.updates }) };
+    ghost view = { λ s. record { name = s.name; joined = s.joined.keys; links = s.links; graph = graph_of s.facts; named = s.facts.terms; updates = s.updates; subscriptions = living s.links s.entries.items; numbered = s.numbered } };
+
+    ghost invariant = { λ s. IsKept (record { name = s.name; joined = s.joined.keys; links = s.links; graph = graph_of s.facts; named = s.facts.terms; updates = s.updates; subscriptions = living s.links s.entries.items; numbered = s.numbered }) × AreEntries s.facts s.links s.updates s.numbered s.entries.items };
 }
 
 fn idle(state: LinkState) -> Reply
@@ -67,6 +80,8 @@ impl Store {
             links: Links::new(alloc),
             facts: Facts::new(alloc, terms),
             updates: 0,
+            entries: Vec::new(alloc),
+            numbered: 0,
         }
     }
 
@@ -77,7 +92,8 @@ impl Store {
         call: Call,
         steps: &mut Steps<L>,
     ) -> Result<Reply, NoMemory>
-        requires { self.old.updates < 2 ^ 62 }
+        requires updates { self.old.updates < 2 ^ 62 }
+        requires numbers { self.old.numbered < 2 ^ 62 }
         ensures reply { IfOk result (λ reply. reply ≡ (step self.old call).reply) }
         ensures space { OnOk result (self.new ≡ (step self.old call).space) }
         ensures err { OnErr result (self.new ≡ self.old) }
@@ -126,18 +142,23 @@ impl Store {
         arrived: Arrived,
         steps: &mut Steps<L>,
     ) -> Result<Reply, NoMemory>
-        requires { self.old.updates < 2 ^ 62 }
+        requires updates { self.old.updates < 2 ^ 62 }
+        requires numbers { self.old.numbered < 2 ^ 62 }
         ensures reply { IfOk result (λ reply. reply ≡ (step self.old (calls.Deliver link arrived)).reply) }
         ensures space { OnOk result (self.new ≡ (step self.old (calls.Deliver link arrived)).space) }
         ensures err { OnErr result (self.new ≡ self.old) }
-        ensures cost { steps.new ≤ steps.old + arrived_cost self.old.graph arrived }
+        ensures cost { steps.new ≤ steps.old + arrived_cost self.old arrived }
     {
         match self.links.state(link) {
             LinkState::Never => Ok(Reply::NoLink),
             LinkState::Open => {
-                let waited = self.links.waiting(link);
+                let before = self.links.open_links(alloc)?;
+                let room = SmallVec::with_capacity(alloc, before.len())?;
                 self.arrive(alloc, link, arrived, steps)?;
-                Ok(self.told(alloc, link, waited))
+                sweep(&self.links, &mut self.entries);
+                Ok(Reply::Done {
+                    ring: Ring::since(&self.links, before.as_slice(), room),
+                })
             }
             LinkState::Ended | LinkState::Overrun | LinkState::Gone => Ok(Reply::Closed),
         }
@@ -150,10 +171,12 @@ impl Store {
         arrived: Arrived,
         steps: &mut Steps<L>,
     ) -> Result<(), NoMemory>
-        requires { self.old.updates < 2 ^ 62 }
+        requires updates { self.old.updates < 2 ^ 62 }
+        requires numbers { self.old.numbered < 2 ^ 62 }
+        requires open { is_open (state_of self.old.links link) ≡ true }
         ensures space { OnOk result (self.new ≡ delivered self.old link arrived) }
         ensures err { OnErr result (self.new ≡ self.old) }
-        ensures cost { steps.new ≤ steps.old + arrived_cost self.old.graph arrived }
+        ensures cost { steps.new ≤ steps.old + arrived_cost self.old arrived }
     {
         match arrived {
             Arrived::NotRequest => {

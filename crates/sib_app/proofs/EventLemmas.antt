@@ -54,15 +54,14 @@ IsOf link (Stops other why) = other ≡ link
 IsOf link (Ends other) = other ≡ link
 IsOf link (Closed other) = other ≡ link
 
--- it leaves the other links as they were
-pub event_leaves : (space : Space) (link : ℕ) (v : Event) → IsDrained space → IsOf link v → Leaves link space (run_from space (calls_at space v))
+-- it opens no link
+pub event_leaves : (space : Space) (link : ℕ) (v : Event) → IsDrained space → IsOf link v → Leaves space (run_from space (calls_at space v))
 event_leaves space link Opens drained h = absurd h
-event_leaves space link (Hears other bytes) drained h = leaves_same link space drained
-event_leaves space link (Arrives other place arrived) drained h =
-    subst (λ n. Leaves n space (run_from space (calls_at space (Arrives other place arrived)))) h (deliver_leaves space other arrived drained)
-event_leaves space link (Stops other why) drained h = subst (λ n. Leaves n space (run_from space (calls_at space (Stops other why)))) h (end_leaves space other drained)
-event_leaves space link (Ends other) drained h = subst (λ n. Leaves n space (run_from space (calls_at space (Ends other)))) h (end_leaves space other drained)
-event_leaves space link (Closed other) drained h = leaves_same link space drained
+event_leaves space link (Hears other bytes) drained h = leaves_same space drained
+event_leaves space link (Arrives other place arrived) drained h = deliver_leaves space other arrived drained
+event_leaves space link (Stops other why) drained h = end_leaves space other drained
+event_leaves space link (Ends other) drained h = end_leaves space other drained
+event_leaves space link (Closed other) drained h = leaves_same space drained
 
 -- no message waits behind an event where none did before
 event_drained : (space : Space) (v : Event) → IsDrained space → IsDrained (run_from space (calls_at space v))
@@ -89,18 +88,18 @@ pub space_drained : (name : List ℕ) (events : List Event) → IsDrained (space
 space_drained name events = drained_from (empty_space name) events
     (λ link. ap pending_or_none (elim (nat_le 1 link) as (λ b. ◌≡◌ {A = Option Link} (cond b None None) None) [ true ↦ refl | false ↦ refl ]))
 
--- so do more
-events_leave_from : (space : Space) (link : ℕ) (events : List Event) → IsDrained space → AllByRecursion (IsOf link) events → Leaves link space (space_from space events)
-events_leave_from space link [] drained h = leaves_same link space drained
+-- nor do more
+events_leave_from : (space : Space) (link : ℕ) (events : List Event) → IsDrained space → AllByRecursion (IsOf link) events → Leaves space (space_from space events)
+events_leave_from space link [] drained h = leaves_same space drained
 events_leave_from space link (v ∷ events) drained h =
     let first = event_leaves space link v drained h.0 in
-    leaves_both link space (run_from space (calls_at space v)) (space_from (run_from space (calls_at space v)) events) first
+    leaves_both space (run_from space (calls_at space v)) (space_from (run_from space (calls_at space v)) events) first
     (events_leave_from (run_from space (calls_at space v)) link events first.drained h.1)
 
 pub events_leave : (name : List ℕ) (before : List Event) (link : ℕ) (events : List Event) → IsDrained (space_after name before) → AllByRecursion (IsOf link) events
-    → Leaves link (space_after name before) (space_after name (before ++ events))
+    → Leaves (space_after name before) (space_after name (before ++ events))
 events_leave name before link events drained h =
-    subst (Leaves link (space_after name before)) (sym (space-append name before events)) (events_leave_from (space_after name before) link events drained h)
+    subst (Leaves (space_after name before)) (sym (space-append name before events)) (events_leave_from (space_after name before) link events drained h)
 
 -- an event and what follows it are of a link
 goes_of : (link : ℕ) (v : Event) (b : Bool) (Others : List Event → Type 0) (events : List Event) → IsOf link v → ((others : List Event) → Others others → AllByRecursion (IsOf link) others)

@@ -24,7 +24,7 @@ use Rattle.sib_script.proofs.ScriptLaws.{fronts_same}
 use Rattle.sib_app.specs.declared.ending.Fault.{Fault}
 use Rattle.sib_app.specs.Doing.{Seen, Does, DoesPart, IsCause}
 use Rattle.sib_app.specs.Output.{Event, Arrives, Stops, StopsBehind, GoesOn, AreArrived, AreHeard, space_after, is_open_after, calls_at, answers_after, rows_after, event_lines, event_rows, reason_of}
-use Rattle.sib_app.specs.Session.{Follows, IsArrival, AreArrivals, Hearing, HearsPart, HearsSome, TakesFramed, Refuses, IsDrained, why_of, reason_in, reason_from}
+use Rattle.sib_app.specs.Session.{Follows, IsArrival, AreArrivals, Hearing, HearsPart, HearsSome, TakesFramed, Refuses, why_of, reason_in, reason_from}
 use Rattle.sib_app.specs.declared.why.Why.{Why}
 use Rattle.sib_app.specs.declared.why.Why.TheVariants.{Syntax, Long}
 use Rattle.sib_app.proofs.LinkLemmas.{none_some, some_same}
@@ -273,14 +273,14 @@ module _ (name : List ℕ) (before : List Event) (link came : ℕ) (heard : List
     }
 
   -- the decoder stopped
-  pub hearing_refused : (at : stop.Stop) (after_ : Decoding) (next : Space) (a b c : Seen) → IsDrained space → decoding.FeedStands d bytes (Err at) mid
+  pub hearing_refused : (at : stop.Stop) (after_ : Decoding) (next : Space) (a b c : Seen) → decoding.FeedStands d bytes (Err at) mid
       → Does a b (answers_after name before events) (rows_after name before events) → Refuses link space at next b c (Ok tt)
       → HearsSome name before link came heard events bytes a c next after_ None
-  hearing_refused at after_ next a b c drained fed p (why, is, does, more) = (
+  hearing_refused at after_ next a b c fed p (why, is, does, more) = (
     Stops link why,
     refused_heard at why fed is,
     pushed (Stops link why) next does,
-    ap (λ (s : Space). is_open (state_of s.links link)) does ∙ end_closes space link drained h.runs,
+    ap (λ (s : Space). is_open (state_of s.links link)) does ∙ end_closes space link h.runs,
     event_done name before events (Stops link why) space a b c h.does p more,
   )
 

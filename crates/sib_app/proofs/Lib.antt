@@ -2,6 +2,8 @@ pub mod DoingLemmas
 pub mod LinkLemmas
 pub mod TakeLemmas
 pub mod RingLemmas
+pub mod LinksStayClosed
+pub mod RingsDrain
 pub mod CallLemmas
 pub mod EventLemmas
 pub mod ReadOnce
@@ -10,6 +12,7 @@ pub mod HearingLemmas
 pub mod DeliveryLemmas
 pub mod SessionLemmas
 pub mod OrderLemmas
+pub mod FollowedLemmas
 pub mod OutputLemmas
 pub mod Letting
 pub mod OutputsExist

@@ -22,16 +22,18 @@ use Rattle.sib_app.specs.declared.why.Why.TheVariants.{Cut}
 use Rattle.sib_app.specs.Output.{Event, Opens, Hears, Arrives, Stops, Ends, Closed, calls_with, calls_at, space_after, is_open_after, heard, arrived_on, StopsBehind, GoesOn, AreArrived, IsHeard, IsEnded, IsTaken, AreTakenAfter, AreTaken, answers, farewell, IsOutput}
 use Rattle.sib_app.specs.Session.{IsDrained}
 use Rattle.sib_app.proofs.LinkLemmas.{some_within, at_opened, at_before}
-use Rattle.sib_app.proofs.CallLemmas.{open_some, end_closes, opens_not, opens}
+use Rattle.sib_app.proofs.LinksStayClosed.{open_before}
+use Rattle.sib_app.proofs.RingsDrain.{open_some}
+use Rattle.sib_app.proofs.CallLemmas.{end_closes, opens_not, opens}
 use Rattle.sib_app.proofs.EventLemmas.{IsOf, space-push, events_leave, heard-append, arrived_of, arrived_quiet, others_quiet}
 use Rattle.sib_app.proofs.Letting.{fronted}
 
 -- an event that ends an open link
 closes : (name : List ℕ) (before : List Event) (link : ℕ) (event : Event) → calls_at (space_after name before) event ≡ calls_with (space_after name before) (Some (call.End link))
-    → IsDrained (space_after name before) → is_open_after name before link ≡ true → is_open_after name (before ++ event ∷ []) link ≡ false
-closes name before link event calls drained on =
+    → is_open_after name before link ≡ true → is_open_after name (before ++ event ∷ []) link ≡ false
+closes name before link event calls on =
     ap (λ (s : Space). is_open (state_of s.links link)) (space-push name before event ∙ ap (run_from (space_after name before)) calls)
-    ∙ end_closes (space_after name before) link drained on
+    ∙ end_closes (space_after name before) link on
 
 -- messages come on an open link as some events, and where it is open behind them no byte is left
 record Comes (name : List ℕ) (before : List Event) (link : ℕ) (front rest : List ℕ) (messages : List Placed) : Type 0 where
@@ -45,13 +47,13 @@ none_left front [] stands = refl
 none_left front (byte ∷ rest) stands = absurd stands
 
 -- behind the last message stands what stops the link
-comes_last : (name : List ℕ) (before : List Event) (link : ℕ) (front rest : List ℕ) (stop : Option Why) → StopsBehind front rest stop → IsDrained (space_after name before)
+comes_last : (name : List ℕ) (before : List Event) (link : ℕ) (front rest : List ℕ) (stop : Option Why) → StopsBehind front rest stop
     → is_open_after name before link ≡ true → Comes name before link front rest []
-comes_last name before link front rest None stands drained on = record { events = []; are = (None, stands, refl); all = λ now. none_left front rest stands }
-comes_last name before link front rest (Some why) stands drained on = record {
+comes_last name before link front rest None stands on = record { events = []; are = (None, stands, refl); all = λ now. none_left front rest stands }
+comes_last name before link front rest (Some why) stands on = record {
   events = Stops link why ∷ [];
   are = (Some why, stands, refl);
-  all = λ now. absurd (false≢true (sym (closes name before link (Stops link why) refl drained on) ∙ now));
+  all = λ now. absurd (false≢true (sym (closes name before link (Stops link why) refl on) ∙ now));
 }
 
 -- a message comes, and others where the link is open then
@@ -76,13 +78,13 @@ comes_next name before link front rest message messages arrived shape false is m
 
 -- messages come one after another
 comes : (name : List ℕ) (before : List Event) (link : ℕ) (front rest : List ℕ) (stop : Option Why) → StopsBehind front rest stop → (messages : List Placed)
-    → IsDrained (space_after name before) → is_open_after name before link ≡ true → Comes name before link front rest messages
-comes name before link front rest stop stands [] drained on = comes_last name before link front rest stop stands drained on
-comes name before link front rest stop stands (message ∷ messages) drained on =
+    → is_open_after name before link ≡ true → Comes name before link front rest messages
+comes name before link front rest stop stands [] on = comes_last name before link front rest stop stands on
+comes name before link front rest stop stands (message ∷ messages) on =
     let shape = shapes_some message.envelope in
     let event : Event = Arrives link message.start shape.0 in
     comes_next name before link front rest message messages shape.0 shape.1 (is_open_after name (before ++ event ∷ []) link) refl
-    (λ now. comes name (before ++ event ∷ []) link front rest stop stands messages (events_leave name before link (event ∷ []) drained (refl, tt)).drained now)
+    (λ now. comes name (before ++ event ∷ []) link front rest stop stands messages now)
 
 -- behind some events no message waits, what came on an open link is viable, and on a link that has not opened yet nothing came
 record Sound (name : List ℕ) (before : List Event) : Type 0 where
@@ -125,10 +127,10 @@ module _ (name : List ℕ) (before vs : List Event) (s : Sound name before) wher
           drained = leaves.drained;
           viable = λ other now. elim (cases_eq link other) [
             | inl same ↦ subst (λ n. IsViable (heard (before ++ vs) n)) same (here (subst (λ n. is_open_after name (before ++ vs) n ≡ true) (sym same) now))
-            | inr apart ↦ subst IsViable (sym (kept other apart)) (s.viable other (ap (λ o. is_open (state_or_never o)) (sym (leaves.others other apart)) ∙ now))
+            | inr apart ↦ subst IsViable (sym (kept other apart)) (s.viable other (open_before (space_after name before) (space_after name (before ++ vs)) leaves.closes other now))
           ];
           fresh = λ other above.
-              let as_many = leaves.opened in
+              let as_many = leaves.closes.as_many in
               let past : length (space_after name before).links < other = omega (arith, as_many, above) in
               kept other (λ e. omega (arith, e, past, within)) ∙ s.fresh other past;
         }
@@ -183,7 +185,7 @@ heard_taken name before link bytes s true on =
     let f = fronted (heard before link ++ bytes) in
     let first : List Event = before ++ Hears link bytes ∷ [] in
     let same : space_after name first ≡ space_after name before = space-push name before (Hears link bytes) in
-    let c = comes name first link f.front f.rest f.stop f.stands (drop (arrived_on before link) f.messages) (subst IsDrained (sym same) s.drained)
+    let c = comes name first link f.front f.rest f.stop f.stands (drop (arrived_on before link) f.messages)
     (ap (λ (x : Space). is_open (state_of x.links link)) same ∙ on)
     in
     let brought : heard (before ++ Hears link bytes ∷ c.events) link ≡ heard before link ++ bytes =
@@ -216,7 +218,7 @@ ended_taken name before link s true on = go (ends_exist (heard before link) (s.v
     by event is of_ calls = record {
       events = event ∷ [];
       taken = subst (λ b. MatchBool b (IsEnded before link (event ∷ [])) (event ∷ [] ≡ Closed link ∷ [])) (sym on) is;
-      sound = sound_on name before (event ∷ []) s link on (of_, tt) (λ now. absurd (false≢true (sym (closes name before link event calls s.drained on) ∙ now)));
+      sound = sound_on name before (event ∷ []) s link on (of_, tt) (λ now. absurd (false≢true (sym (closes name before link event calls on) ∙ now)));
     }
 
     go : ((messages : List Placed) × Stream (heard before link) messages) ⊎ ((start : ℕ) × IsInside (heard before link) start) → Takes name before (End link)

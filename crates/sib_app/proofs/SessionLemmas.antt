@@ -12,7 +12,8 @@ use Rattle.ssap_decode.specs.Decoding.{Decoding}
 use Rattle.ssap_decode.specs.Standing as decoding
 use Rattle.ssap_decode.specs.declared.framed.Stop as stop
 use Rattle.session_core.specs.Space.{Space}
-use Rattle.session_core.specs.Steps.{step, with_links}
+use Rattle.session_core.specs.Queues.{with_links}
+use Rattle.session_core.specs.Steps.{step}
 use Rattle.session_core.specs.Runs.{run_from}
 use Rattle.session_core.specs.declared.call.Call.TheVariants as call
 use Rattle.sib_script.specs.declared.entry.Entry.{Entry}
@@ -27,7 +28,9 @@ use Rattle.sib_app.specs.declared.why.Why.{Why}
 use Rattle.sib_app.specs.declared.why.Why.TheVariants.{Cut}
 use Rattle.sib_app.specs.declared.session.Session.{Session}
 use Rattle.sib_app.proofs.LinkLemmas.{none_some, some_same, some_within, at_opened, at_before}
-use Rattle.sib_app.proofs.CallLemmas.{open_some, end_closes, opens_not, opens}
+use Rattle.sib_app.proofs.LinksStayClosed.{open_before}
+use Rattle.sib_app.proofs.RingsDrain.{open_some}
+use Rattle.sib_app.proofs.CallLemmas.{end_closes, opens_not, opens}
 use Rattle.sib_app.proofs.DoingLemmas.{does_nothing, all_part, part_more, then_nothing, cause_after}
 use Rattle.sib_app.proofs.ReadOnce.{heard_once, ended_once}
 use Rattle.sib_app.proofs.EventLemmas.{IsOf, ne-eqb, event_done, event_part, space-push, events_leave, heard-append, arrived-append, arrived-cons, arrived_of, arrived_quiet, others_quiet}
@@ -66,6 +69,12 @@ knows_same before now link true None h a k = absurd k
 knows_same before now link true (Some d) h a k = subst (λ l. Follows d l (arrived_on now link)) (sym h) (subst (Follows d (heard before link)) (sym a) k)
 knows_same before now link false o h a k = tt
 
+-- what is known of a link stays where nothing came and it did not open
+knows_left : (before now : List Event) (link : ℕ) (was on : Bool) (o : Option Decoding) → heard now link ≡ heard before link → arrived_on now link ≡ arrived_on before link → (on ≡ true → was ≡ true)
+    → Knows before link was o → Knows now link on o
+knows_left before now link was false o h a open_ k = tt
+knows_left before now link was true o h a open_ k = knows_same before now link true o h a (subst (λ b. Knows before link b o) (open_ refl) k)
+
 module _ (before vs : List Event) (link : ℕ) (quiet : (heard vs link ≡ []) × (arrived_on vs link ≡ 0)) where
   heard_kept : heard (before ++ vs) link ≡ heard before link
   heard_kept = heard-append before vs link ∙ ap (λ l. heard before link ++ l) quiet.0 ∙ append-nil (heard before link)
@@ -90,15 +99,17 @@ stands_after name before vs link session new s of_ quiet core here others =
           (λ same. subst (λ n. Knows (before ++ vs) n (is_open (state_of new.core.space.links n)) (found new n)) same here)
           (λ apart.
           let none = others_quiet link other vs apart of_ in
-          let same : link_at new.core.space.links other ≡ link_at session.core.space.links other =
-          ap (λ (x : Space). link_at x.links other) core ∙ leaves.others other apart ∙ ap (λ (x : Space). link_at x.links other) (sym s.core)
+          let was_open : is_open (state_of new.core.space.links other) ≡ true → is_open (state_of session.core.space.links other) ≡ true =
+          λ now.
+          ap (λ (x : Space). is_open (state_of x.links other)) s.core
+          ∙ open_before (space_after name before) (space_after name (before ++ vs)) leaves.closes other (ap (λ (x : Space). is_open (state_of x.links other)) (sym core) ∙ now)
           in
-          subst (λ o. Knows (before ++ vs) other (is_open (state_or_never o)) (found new other)) (sym same)
-          (subst (Knows (before ++ vs) other (is_open (state_of session.core.space.links other))) (sym (others other apart))
-          (knows_same before (before ++ vs) other (is_open (state_of session.core.space.links other)) (found session other) (heard_kept before vs other none) (arrived_kept before vs other none) (s.knows other))))
+          subst (Knows (before ++ vs) other (is_open (state_of new.core.space.links other))) (sym (others other apart))
+          (knows_left before (before ++ vs) other (is_open (state_of session.core.space.links other)) (is_open (state_of new.core.space.links other)) (found session other)
+          (heard_kept before vs other none) (arrived_kept before vs other none) was_open (s.knows other)))
           (cases_eq link other);
       fresh = λ other above.
-          let as_many : length new.core.space.links ≡ length session.core.space.links = ap (λ (x : Space). length x.links) core ∙ leaves.opened ∙ ap (λ (x : Space). length x.links) (sym s.core) in
+          let as_many : length new.core.space.links ≡ length session.core.space.links = ap (λ (x : Space). length x.links) core ∙ leaves.closes.as_many ∙ ap (λ (x : Space). length x.links) (sym s.core) in
           let past : length session.core.space.links < other = omega (arith, as_many, above) in
           fresh_kept before vs other (quiet other past) (s.fresh other past);
     }
@@ -263,7 +274,7 @@ module _ (name : List ℕ) (before : List Event) (session : Session) (s : Stands
         does ∙ ap (run_from session.core.space) (sym calls) ∙ ap (λ x. run_from x (calls_at x event)) s.core ∙ sym (space-push name before event)
         in
         let off : is_open (state_of new.core.space.links link) ≡ false =
-        ap (λ (x : Space). is_open (state_of x.links link)) does ∙ end_closes session.core.space link s.drained on
+        ap (λ (x : Space). is_open (state_of x.links link)) does ∙ end_closes session.core.space link on
         in
         record {
           events = event ∷ [];

@@ -5,7 +5,8 @@ use Rattle.link_table.specs.Links.{Link, taken, link_with, link_at, changed, sta
 use Rattle.link_table.specs.declared.state.LinkState.{LinkState}
 use Rattle.link_table.specs.declared.state.LinkState as state
 use Rattle.session_core.specs.Space.{Space}
-use Rattle.session_core.specs.Steps.{step, take_step, taken_from, with_links}
+use Rattle.session_core.specs.Queues.{with_links}
+use Rattle.session_core.specs.Steps.{step, take_step, taken_from}
 use Rattle.session_core.specs.Runs.{run_from}
 use Rattle.session_core.specs.declared.call.Call.{Call}
 use Rattle.session_core.specs.declared.call.Call.TheVariants.{Take}

@@ -1,5 +1,6 @@
 pub mod Output
 pub mod Lines
+pub mod Followed
 pub mod Examples
 pub mod Limits
 pub mod Ending

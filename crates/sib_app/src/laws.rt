@@ -1,6 +1,7 @@
 ghost use Rattle.std.specs.Prelude.{◌≡◌, List, ℕ};
 ghost use Rattle.sib_script.specs.declared.entry.Entry.{Entry};
 ghost use Rattle.session_core.specs.Runs.{run};
+ghost use Rattle.sib_app.specs.Followed.{SubscriptionsAreFollowed, ChangesAreWritten};
 ghost use Rattle.sib_app.specs.Lines.{MessagesAreSent};
 ghost use Rattle.sib_app.specs.Output.{Event, AreTaken, IsOutput, space_after, history};
 
@@ -25,4 +26,13 @@ pub fn spaces_are_run()
 /// sent on it, in order. No event loses a link, so no message that was sent is dropped before it is written.
 pub fn messages_are_written_as_sent()
     ensures { MessagesAreSent }
+{}
+
+/// Whatever the events, each subscription that lives behind them was followed through the history of their calls: it began
+/// once, its changes are numbered 1, 2, 3 and so on, none is empty, none has a row both added and obsolete, and folded over its
+/// first answer they give its answer over the graph. And they are written: among the messages that the answers to the events
+/// have on its link they stand as indications, in their order.
+pub fn subscriptions_are_followed()
+    ensures followed { SubscriptionsAreFollowed }
+    ensures written { ChangesAreWritten }
 {}

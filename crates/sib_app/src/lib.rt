@@ -12,5 +12,8 @@ mod session;
 mod why;
 
 pub use ending::{Ending, INPUT_LIMIT};
-pub use laws::{messages_are_written_as_sent, outputs_are_told, outputs_exist, spaces_are_run};
+pub use laws::{
+    messages_are_written_as_sent, outputs_are_told, outputs_exist, spaces_are_run,
+    subscriptions_are_followed,
+};
 pub use run::sib_run;

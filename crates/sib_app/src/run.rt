@@ -37,9 +37,14 @@ const BUFFER: usize = 16384;
 /// stops, if it does. `steps` counts the rows of the graph that calls read. The runtime is for work on threads, of which
 /// there is none yet.
 ///
+/// A call may send on links other than its own: an update tells each subscription whose answer it changes, on the link of
+/// that subscription. The law `subscriptions_are_followed` says of the events of any script that what a living subscription was
+/// told leads from its first answer to its answer over the graph, and that these changes are written for its link, in their
+/// order.
+///
 /// | Line | What it answers |
 /// |---|---|
-/// | `<L N`, and N bytes on lines of their own | a message that is sent on link L, as the confirm of a request that came on it |
+/// | `<L N`, and N bytes on lines of their own | a message that is sent on link L: the confirm of a request that came on it, or an indication of a subscription on it |
 /// | `!L P request` | the message that begins at byte P of link L, which is no request: the link stops |
 /// | `!L P syntax` | the byte P of link L, with which no message goes on: the link stops |
 /// | `!L P long` | the message that begins at byte P of link L and has more than 4,194,304 bytes: the link stops |

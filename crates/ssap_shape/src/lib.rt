@@ -22,3 +22,4 @@ pub use request::{Arrived, Ask, Request, Wish};
 pub use send::{confirm_envelope, indication_envelope};
 pub use shapes::shape;
 pub use status::Status;
+pub use words::number_text;

@@ -5,7 +5,7 @@ ghost use Rattle.std.specs.Prelude.{◌≡◌, ◌<◌};
 use m3_terms::{Bytes, Steps};
 use sib_app::{
     INPUT_LIMIT, messages_are_written_as_sent, outputs_are_told, outputs_exist, sib_run,
-    spaces_are_run,
+    spaces_are_run, subscriptions_are_followed,
 };
 use sib_io::{Calls, MemSink, MemSource};
 use std::alloc::Global;
@@ -509,6 +509,7 @@ fn laws_and_limits(rt: HostRuntime) -> Result<(), Fail> {
     outputs_exist();
     spaces_are_run();
     messages_are_written_as_sent();
+    subscriptions_are_followed();
     assert_eq!(rt; INPUT_LIMIT, 1_099_511_627_776);
     Ok(())
 }

@@ -3,8 +3,9 @@ ghost use Rattle.std.specs.Prelude.{◌≡◌, ◌<◌};
 
 use m3_terms::{Bytes, Pattern, Patterns, Slot, Steps, Term, Text, Triple};
 use session_core::{
-    Call, Core, LinkState, NODE_LIMIT, Reply, TRIPLE_LIMIT, messages_stay_in_order,
-    runs_stay_in_order, taken_is_a_prefix_of_sent, updates_make_the_graph, updates_remove_first,
+    Call, Core, LinkState, NODE_LIMIT, Reply, TRIPLE_LIMIT, answers_are_followed, changes_are_sent,
+    messages_stay_in_order, other_links_stay, runs_stay_in_order, taken_is_a_prefix_of_sent,
+    updates_make_the_graph, updates_remove_first,
 };
 use ssap_items::{Heads, MessageType, Transaction};
 use ssap_shape::{Arrived, Ask, Request, Status, Wish};
@@ -34,6 +35,18 @@ const FOUND_OFF: &[u8] =
 
 const FOUND_STATE: &[u8] =
     b"<SSAP_message><message_type>CONFIRM</message_type><transaction_type>QUERY</transaction_type><transaction_id>1</transaction_id><node_id>k</node_id><space_id>X</space_id><parameter name=\"status\">m3:Success</parameter><parameter name=\"results\"><sparql xmlns=\"http://www.w3.org/2005/sparql-results#\"><head><variable name=\"o\"/></head><results><result><binding name=\"o\"><literal>on</literal></binding></result></results></sparql></parameter></SSAP_message>";
+
+const SUBSCRIBED: &[u8] =
+    b"<SSAP_message><message_type>CONFIRM</message_type><transaction_type>SUBSCRIBE</transaction_type><transaction_id>1</transaction_id><node_id>k</node_id><space_id>X</space_id><parameter name=\"status\">m3:Success</parameter><parameter name=\"subscription_id\">1</parameter><parameter name=\"results\"><triple_list></triple_list></parameter></SSAP_message>";
+
+const TOLD_ON: &[u8] =
+    b"<SSAP_message><message_type>INDICATION</message_type><transaction_type>SUBSCRIBE</transaction_type><transaction_id>1</transaction_id><node_id>k</node_id><space_id>X</space_id><parameter name=\"subscription_id\">1</parameter><parameter name=\"ind_sequence\">1</parameter><parameter name=\"new_results\"><triple_list><triple><subject type=\"uri\">lamp</subject><predicate>state</predicate><object type=\"literal\">on</object></triple></triple_list></parameter><parameter name=\"obsolete_results\"><triple_list></triple_list></parameter></SSAP_message>";
+
+const TOLD_OFF: &[u8] =
+    b"<SSAP_message><message_type>INDICATION</message_type><transaction_type>SUBSCRIBE</transaction_type><transaction_id>1</transaction_id><node_id>k</node_id><space_id>X</space_id><parameter name=\"subscription_id\">1</parameter><parameter name=\"ind_sequence\">1</parameter><parameter name=\"new_results\"><sparql xmlns=\"http://www.w3.org/2005/sparql-results#\"><head><variable name=\"o\"/></head><results><result><binding name=\"o\"><literal>off</literal></binding></result></results></sparql></parameter><parameter name=\"obsolete_results\"><sparql xmlns=\"http://www.w3.org/2005/sparql-results#\"><head><variable name=\"o\"/></head><results><result><binding name=\"o\"><literal>on</literal></binding></result></results></sparql></parameter></SSAP_message>";
+
+const TOLD_END: &[u8] =
+    b"<SSAP_message><message_type>INDICATION</message_type><transaction_type>UNSUBSCRIBE</transaction_type><transaction_id>1</transaction_id><node_id>k</node_id><space_id>X</space_id><parameter name=\"subscription_id\">1</parameter><parameter name=\"status\">m3:Success</parameter></SSAP_message>";
 
 const SUCCESS: &[u8] = b"m3:Success</parameter></SSAP_message>";
 
@@ -120,15 +133,23 @@ fn query(alloc: Global, wish: Wish) -> Result<Arrived, Fail> {
     request(alloc, b"k", Transaction::Query, Ask::Query(wish))
 }
 
-// Which state the lamp is in.
-fn query_lamp(alloc: Global) -> Result<Arrived, Fail> {
-    let templates = one_lamp(alloc, Slot::Any)?;
-    query(alloc, Wish::Templates(templates))
+fn subscribe(alloc: Global, wish: Wish) -> Result<Arrived, Fail> {
+    request(alloc, b"k", Transaction::Subscribe, Ask::Subscribe(wish))
 }
 
-fn query_text(alloc: Global) -> Result<Arrived, Fail> {
+fn unsubscribe(alloc: Global) -> Result<Arrived, Fail> {
+    let ask = Ask::Unsubscribe(Text::read(alloc, b"1")?);
+    request(alloc, b"k", Transaction::Unsubscribe, ask)
+}
+
+// Which state the lamp is in: by a template, and by a text.
+fn lamp_by_template(alloc: Global) -> Result<Wish, Fail> {
+    Ok(Wish::Templates(one_lamp(alloc, Slot::Any)?))
+}
+
+fn lamp_by_text(alloc: Global) -> Result<Wish, Fail> {
     let text = Text::read(alloc, b"SELECT DISTINCT ?o { <lamp> <state> ?o }")?;
-    query(alloc, Wish::Sparql(text))
+    Ok(Wish::Sparql(text))
 }
 
 // A message that is wrong by itself.
@@ -143,7 +164,7 @@ fn wrong(alloc: Global) -> Result<Arrived, Fail> {
 }
 
 // What a letter stands for: the node joins, leaves, inserts with and without a confirm, updates, queries by a template or
-// by a text; a wrong message; and else no request.
+// by a text, subscribes by a template or by a text, ends its first subscription; a wrong message; and else no request.
 fn arrived(alloc: Global, letter: u8) -> Result<Arrived, Fail> {
     match letter {
         b'J' => request(alloc, b"k", Transaction::Join, Ask::Join),
@@ -151,8 +172,11 @@ fn arrived(alloc: Global, letter: u8) -> Result<Arrived, Fail> {
         b'I' => insert_lamp(alloc, true),
         b'i' => insert_lamp(alloc, false),
         b'U' => switch_off(alloc),
-        b'Q' => query_lamp(alloc),
-        b'S' => query_text(alloc),
+        b'Q' => query(alloc, lamp_by_template(alloc)?),
+        b'S' => query(alloc, lamp_by_text(alloc)?),
+        b'P' => subscribe(alloc, lamp_by_template(alloc)?),
+        b'A' => subscribe(alloc, lamp_by_text(alloc)?),
+        b'D' => unsubscribe(alloc),
         b'W' => wrong(alloc),
         _ => Ok(Arrived::NotRequest),
     }
@@ -291,7 +315,7 @@ impl<L: Ledger> Room<L> {
 // Calls, what they answer, how the message that is taken last ends, and how many updates and triples there are then.
 type Case = (&'static [u8], &'static str, &'static [u8], u64, u64);
 
-const CASES: [Case; 15] = [
+const CASES: [Case; 19] = [
     (b"N.J1T1", "o1d1m", JOINED, 0, 0),
     (b"N.J1T1I1I1T1", "o1d1md1d1m", INSERTED, 2, 1),
     (b"N.J1T1L1T1i1T1", "o1d1md1md1m", DENIED, 0, 0),
@@ -303,6 +327,10 @@ const CASES: [Case; 15] = [
     (b"N.J1I1T1T1U1Q1T1T1", "o1d1d1mmd1d1mm", FOUND_OFF, 2, 1),
     (b"N.J1T1I1T1S1T1", "o1d1md1md1m", FOUND_STATE, 1, 1),
     (b"N.W1T1", "o1d1m", WRONG, 0, 0),
+    (b"N.J1T1P1T1", "o1d1md1m", SUBSCRIBED, 0, 0),
+    (b"N.N.J1T1P1T1i2T2T1", "o1o2d1md1md1em", TOLD_ON, 1, 1),
+    (b"N.J1T1I1T1A1T1U1T1T1", "o1d1md1md1md1mm", TOLD_OFF, 2, 1),
+    (b"N.J1T1P1T1D1T1T1", "o1d1md1md1mm", TOLD_END, 0, 0),
     (b"N.N.J2T1T2I1T2T1", "o1o2d2emd1em", INSERTED, 1, 1),
     (b"N.B1B1J1E1X1T1", "o1d1cccdv", b"", 0, 0),
     (b"J1E1X1T1T0", "nnnnn", b"", 0, 0),
@@ -441,4 +469,7 @@ fn the_laws_are_called() {
     updates_make_the_graph();
     messages_stay_in_order();
     taken_is_a_prefix_of_sent();
+    answers_are_followed();
+    changes_are_sent();
+    other_links_stay();
 }

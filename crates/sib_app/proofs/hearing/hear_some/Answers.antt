@@ -9,7 +9,7 @@ use Rattle.sib_app.proofs.hearing.hear_some.Goals as goal
 pub returns-in-Err-clause-heard : goal.returns-in-Err-clause-heard
 returns-in-Err-clause-heard g c name before heard came events old h p =
     hearing_refused name before c.args.link came heard events c.args.core.now.space c.args.decoder.now c.feed.new.self c.feed.new.self c.args.bytes.now h
-    c.in-Err.stop c.feed.new.self c.refuse.new.core.space old _ _ c.requires.drained c.in-Err.ensures.stands p c.in_ok-refuse-in-Err.ensures.refused
+    c.in-Err.stop c.feed.new.self c.refuse.new.core.space old _ _ c.in-Err.ensures.stands p c.in_ok-refuse-in-Err.ensures.refused
 
 -- no message was ended
 pub returns-in_default-clause-heard : goal.returns-in_default-clause-heard

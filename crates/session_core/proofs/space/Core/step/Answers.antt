@@ -1,15 +1,20 @@
 use Rattle.std.proofs.Common.{◌+◌, ap, ◌∙◌, arith, Ok}
-use Rattle.session_core.specs.Space.{State}
+use Rattle.session_core.specs.Space.{Space, State}
 use Rattle.session_core.specs.Steps.{step, advanced}
 use Rattle.session_core.proofs.Growing.{at_most_one_more}
+use Rattle.session_core.proofs.NumbersAreGiven.{one_number_more}
 use Rattle.session_core.proofs.Standing.{stands_on}
 use Rattle.session_core.proofs.space.Core.step.Goals as goal
 
 pub invariant_of-self-2 : goal.invariant_of-self-2
 invariant_of-self-2 g c =
-    let same = ap (λ s. s.updates) c.in_ok-reply.ensures.space in
-    let few = at_most_one_more c.self.inside.store c.args.call in
-    omega arith
+    let updates = ap (λ (space : Space). space.updates) c.in_ok-reply.ensures.space in
+    let numbered = ap (λ (space : Space). space.numbered) c.in_ok-reply.ensures.space in
+    let accepted = at_most_one_more c.self.inside.store c.args.call in
+    let given = one_number_more c.self.inside.store c.args.call in
+    let first = c.self.invariant.0 in
+    let second = c.self.invariant.1 in
+    (omega arith, omega arith)
 
 pub returns-clause-stands : goal.returns-clause-stands
 returns-clause-stands g c =

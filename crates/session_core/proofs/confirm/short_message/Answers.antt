@@ -1,6 +1,0 @@
-use Rattle.std.proofs.Common.{subst, sym, ◌<◌, length}
-use Rattle.session_core.proofs.Spelled.{canonical_some}
-use Rattle.session_core.proofs.confirm.short_message.Goals as goal
-
-pub new-requires : goal.new-requires
-new-requires c = subst (λ bytes. 0 < length bytes) (sym c.in_ok-bytes.ensures) (canonical_some c.in_ok-envelope.envelope)
