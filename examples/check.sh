@@ -42,8 +42,10 @@ for count in 65536 7 1; do
     fi
 done
 
-# What awk makes messages from: the heads, a triple by the predicate p, a list of triples; a request on link 1, and a confirm.
+# What awk makes messages from: the heads, a triple by the predicate p, a list of triples; a request on a link, a confirm and
+# an indication.
 spelling='
+    BEGIN { link = 1 }
     function heads(type, transaction, number) {
         return "<SSAP_message><message_type>" type "</message_type><transaction_type>" transaction "</transaction_type>" \
             "<transaction_id>" number "</transaction_id><node_id>k</node_id><space_id>X</space_id>"
@@ -56,19 +58,41 @@ spelling='
         return "<parameter name=\"" name "\"><triple_list>" triples "</triple_list></parameter>"
     }
     function ending() { return "</triple_list></parameter></SSAP_message>" }
-    function deliver(bytes) { printf ">1 %d\n", length(bytes); print bytes }
+    function deliver(bytes) { printf ">%d %d\n", link, length(bytes); print bytes }
     function join() { deliver(heads("REQUEST", "JOIN", 1) "</SSAP_message>") }
     function query(number, subject) {
         deliver(heads("REQUEST", "QUERY", number) "<parameter name=\"type\">RDF-M3</parameter>" \
             list("query", triple(subject, "uri", "sib:any")) "</SSAP_message>")
     }
+    function subscribe(number, subject) {
+        deliver(heads("REQUEST", "SUBSCRIBE", number) "<parameter name=\"type\">RDF-M3</parameter>" \
+            list("query", triple(subject, "uri", "sib:any")) "</SSAP_message>")
+    }
+    function unsubscribe(number, subscription) {
+        deliver(heads("REQUEST", "UNSUBSCRIBE", number) of(subscription) "</SSAP_message>")
+    }
+    function of(subscription) { return "<parameter name=\"subscription_id\">" subscription "</parameter>" }
     # The confirm without its end.
     function confirm(transaction, number, status) {
         return heads("CONFIRM", transaction, number) "<parameter name=\"status\">m3:" status "</parameter>"
     }
-    function send(bytes) { printf "<1 %d\n", length(bytes); print bytes }
+    function send(bytes) { printf "<%d %d\n", link, length(bytes); print bytes }
     function refuse(transaction, number) { send(confirm(transaction, number, "SIB.Failure.OutOfResources") "</SSAP_message>") }
     function accept(transaction, number) { send(confirm(transaction, number, "Success") "</SSAP_message>") }
+    # The confirm of a subscription whose first answer is empty.
+    function first_answer(number, subscription) {
+        send(confirm("SUBSCRIBE", number, "Success") of(subscription) list("results", "") "</SSAP_message>")
+    }
+    # The indication of new triples, without its end and the list that goes before it.
+    function told(number, subscription, sequence) {
+        return heads("INDICATION", "SUBSCRIBE", number) of(subscription) "<parameter name=\"ind_sequence\">" sequence "</parameter>" \
+            "<parameter name=\"new_results\"><triple_list>"
+    }
+    function tell(number, subscription, sequence, triples) { send(told(number, subscription, sequence) triples told_end()) }
+    function told_end() { return "</triple_list></parameter>" list("obsolete_results", "") "</SSAP_message>" }
+    function finish(number, subscription, status) {
+        send(heads("INDICATION", "UNSUBSCRIBE", number) of(subscription) "<parameter name=\"status\">m3:" status "</parameter></SSAP_message>")
+    }
 '
 
 # A graph, and a query whose confirm has so many bytes more than a message may have: the script, or what it writes. The
@@ -148,6 +172,162 @@ wide_answer() {
         }'
 }
 
+# So many subscriptions of one node, of which 256 may live; one more where one has ended: the script, or what it writes.
+many_subscriptions() {
+    awk -v part="$1" -v count="$2" "$spelling"'
+        BEGIN {
+            if (part == "script") {
+                print "+"
+                join()
+                for (i = 1; i <= count; i++)
+                    subscribe(i + 1, "a")
+                unsubscribe(count + 2, 1)
+                subscribe(count + 3, "a")
+                exit
+            }
+            accept("JOIN", 1)
+            for (i = 1; i <= count && i <= 256; i++)
+                first_answer(i + 1, i)
+            for (; i <= count; i++)
+                refuse("SUBSCRIBE", i + 1)
+            accept("UNSUBSCRIBE", count + 2)
+            finish(2, 1, "Success")
+            first_answer(count + 3, 257)
+            print "= 0 0 256"
+        }'
+}
+
+# So many links, each with a subscription; one update tells all of them: the script, or what it writes.
+many_links() {
+    awk -v part="$1" -v count="$2" "$spelling"'
+        BEGIN {
+            if (part == "script") {
+                for (i = 1; i <= count; i++)
+                    print "+"
+                join()
+                for (link = 1; link <= count; link++)
+                    subscribe(link + 1, "a")
+                link = count
+                deliver(heads("REQUEST", "INSERT", count + 2) list("insert_graph", triple("a", "literal", "1")) "</SSAP_message>")
+                exit
+            }
+            accept("JOIN", 1)
+            for (link = 1; link <= count; link++)
+                first_answer(link + 1, link)
+            for (link = 1; link < count; link++)
+                tell(link + 1, link, 1, triple("a", "literal", "1"))
+            accept("INSERT", count + 2)
+            tell(count + 1, count, 1, triple("a", "literal", "1"))
+            print "= 1 1 " count
+        }'
+}
+
+# A standing query over so many triples in four inserts, and then one more, which makes it too wide: the script, or what it writes.
+standing_width() {
+    awk -v part="$1" -v count="$2" "$spelling"'
+        function triples(from, to,    i) {
+            for (i = from; i < to; i++)
+                if (part == "script")
+                    deliver(triple("s" i, "literal", "1"))
+                else
+                    printf "%s", triple("s" i, "literal", "1")
+        }
+        # The length of triples whose subjects are s and these numbers.
+        function length_of(from, to,    i, sum) {
+            for (i = from; i < to; i++)
+                sum += length(triple("s" i, "literal", "1"))
+            return sum
+        }
+        BEGIN {
+            block = count / 4
+            if (part == "script") {
+                print "+"
+                join()
+                subscribe(2, "sib:any")
+                for (b = 0; b <= 4; b++) {
+                    deliver(heads("REQUEST", "INSERT", 3 + b) "<parameter name=\"insert_graph\"><triple_list>")
+                    triples(b * block, b < 4 ? (b + 1) * block : count + 1)
+                    deliver(ending())
+                }
+                query(8, "sib:any")
+                exit
+            }
+            accept("JOIN", 1)
+            first_answer(2, 1)
+            for (b = 0; b < 4; b++) {
+                accept("INSERT", 3 + b)
+                printf "<1 %d\n%s", length(told(2, 1, b + 1) told_end()) + length_of(b * block, (b + 1) * block), told(2, 1, b + 1)
+                print_in_order(b * block, (b + 1) * block)
+                print told_end()
+            }
+            accept("INSERT", 7)
+            finish(2, 1, "SIB.Failure.OutOfResources")
+            refuse("QUERY", 8)
+            print "= 5 " (count + 1) " 0"
+        }
+        # Triples whose subjects are s and these numbers, by the bytes of the subjects: as the numbers stand in a dictionary.
+        function print_in_order(from, to,    first) {
+            for (first = from == 0 ? 0 : 1; first <= 9; first++)
+                walk(first, from, to)
+        }
+        function walk(number, from, to,    digit) {
+            if (number >= to)
+                return
+            if (number >= from)
+                printf "%s", triple("s" number, "literal", "1")
+            if (number > 0)
+                for (digit = 0; digit <= 9; digit++)
+                    walk(number * 10 + digit, from, to)
+        }'
+}
+
+# Three subscriptions on link 2, and an update on link 1 whose indications have so many letters each: the third would make too
+# many bytes wait, so link 2 stops. The script, or what it writes.
+second_link_overruns() {
+    awk -v part="$1" -v count="$2" "$spelling"'
+        function letters(count,    text, half) {
+            if (count == 0)
+                return ""
+            half = letters(int(count / 2))
+            return half half (count % 2 ? "x" : "")
+        }
+        function triples(    i, all) {
+            for (i = 0; i < count / 4000; i++)
+                all = all triple("a", "literal", sprintf("%04d", i) word)
+            return all
+        }
+        BEGIN {
+            word = letters(3996)
+            if (part == "script") {
+                print "+"
+                print "+"
+                join()
+                for (link = 2; number < 3; number++)
+                    subscribe(2 + number, "a")
+                link = 1
+                deliver(heads("REQUEST", "INSERT", 5) "<parameter name=\"insert_graph\"><triple_list>")
+                for (i = 0; i < count / 4000; i++)
+                    deliver(triple("a", "literal", sprintf("%04d", i) word))
+                deliver(ending())
+                deliver(heads("REQUEST", "INSERT", 6) list("insert_graph", triple("a", "literal", "1")) "</SSAP_message>")
+                exit
+            }
+            accept("JOIN", 1)
+            for (link = 2; number < 3; number++)
+                first_answer(2 + number, 1 + number)
+            link = 1
+            accept("INSERT", 5)
+            link = 2
+            all = triples()
+            tell(2, 1, 1, all)
+            tell(3, 2, 1, all)
+            print "!2 0 overrun"
+            link = 1
+            accept("INSERT", 6)
+            print "= 2 " (count / 4000 + 1) " 0"
+        }'
+}
+
 # Whether the script that a function makes from an argument is answered as it says.
 check_answer() {
     if "$1" script "$2" | "$program" replay X | cmp -s - <("$1" output "$2"); then
@@ -162,6 +342,14 @@ check_answer() {
 check_answer long_answer 0
 check_answer long_answer 1
 check_answer wide_answer 65537
+
+# 256 subscriptions live and no more; an update tells 256 links; a standing query ends where its width passes 65,536 triples.
+check_answer many_subscriptions 258
+check_answer many_links 256
+check_answer standing_width 65536
+
+# Where the messages of one update are too many for a link, only its own subscriptions end.
+check_answer second_link_overruns 3200000
 
 # Of 257 links that are asked for, 256 open.
 if yes + | head -n 257 | "$program" replay X | cmp -s - <(printf '!0 256 full\n= 0 0 0\n'); then
