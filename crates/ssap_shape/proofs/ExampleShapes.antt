@@ -5,7 +5,8 @@ use Rattle.ssap_shape.specs.Table.{word}
 use Rattle.ssap_shape.specs.Templates.{is_wildcard}
 use Rattle.ssap_shape.specs.Updates.{names_templates, says_yes, says_no}
 use Rattle.ssap_shape.specs.Replies.{status_word}
-use Rattle.ssap_shape.specs.Examples.{Joins, Removes, Incompletes, Unknowns, Empties, Encodings, Nodeless, Twelves}
+use Rattle.ssap_shape.specs.Asking.{sparql_word}
+use Rattle.ssap_shape.specs.Examples.{Joins, Removes, Incompletes, Unknowns, Empties, Encodings, Nodeless, Twelves, AsksToJoin, AsksInSparql, TellsRefusal}
 
 pub joins : Joins
 joins = (refl, refl, record { complete = refl; right = refl; built = refl; little = refl }, refl)
@@ -36,3 +37,14 @@ nodeless = refl
 pub twelves : Twelves
 unfolding word status_word digits
 twelves = refl
+
+pub asks_to_join : AsksToJoin
+asks_to_join = refl
+
+pub asks_in_sparql : AsksInSparql
+unfolding word sparql_word
+asks_in_sparql = refl
+
+pub tells_refusal : TellsRefusal
+unfolding word status_word
+tells_refusal = record { kind = refl; heads = refl; status = (_, refl, refl); subscription = refl; answer = refl }

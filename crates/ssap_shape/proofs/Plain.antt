@@ -33,7 +33,7 @@ spelled (b ∷ bytes) h =
     rw (encode_ascii b small, spelled bytes (second_so (nat_le 0x20 b && nat_le b 0x7E) (is_plain bytes) h)) refl
 
 -- a plain word is a text
-plain_text : (bytes : List ℕ) → IsTrue (is_plain bytes) → IsText bytes
+pub plain_text : (bytes : List ℕ) → IsTrue (is_plain bytes) → IsText bytes
 plain_text bytes h = (bytes, all_allowed bytes h, spelled bytes h)
 
 -- a text fails nowhere

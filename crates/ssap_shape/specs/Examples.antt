@@ -13,10 +13,14 @@ use Rattle.ssap_items.specs.declared.envelope.Param.{Param}
 use Rattle.ssap_items.specs.declared.envelope.Envelope.{Envelope}
 use Rattle.ssap_shape.specs.declared.status.Status as status
 use Rattle.ssap_shape.specs.declared.request.Ask as ask
+use Rattle.ssap_shape.specs.declared.request.Wish as wish
 use Rattle.ssap_shape.specs.declared.request.Arrived.TheVariants.{Request, Wrong, NotRequest}
 use Rattle.ssap_shape.specs.declared.reply.Confirm.{Confirm}
+use Rattle.ssap_shape.specs.declared.reply.Incoming.TheVariants as incoming
 use Rattle.ssap_shape.specs.Shape.{IsShape}
 use Rattle.ssap_shape.specs.Replies.{confirm_of}
+use Rattle.ssap_shape.specs.Told.{IsTold}
+use Rattle.ssap_shape.specs.Asking.{request_of}
 
 -- the heads of a node's message to the space X
 abbrev pub heads_of : Transaction → Heads
@@ -104,3 +108,27 @@ Twelves = confirm_of twelve ≡ record {
   heads = record (heads_of transaction.TheVariants.Subscribe) { message = message.TheVariants.Confirm };
   params = one_text (codes "status") (codes "m3:Success") ∷ one_text (codes "subscription_id") (codes "12") ∷ [];
 }
+
+-- the message of a request to join has no parameter
+abbrev pub AsksToJoin : Type 0
+AsksToJoin = request_of (record { heads = heads_of transaction.TheVariants.Join; ask = ask.TheVariants.Join })
+    ≡ asked transaction.TheVariants.Join []
+
+-- that of a subscription in SPARQL has its language and its text
+abbrev pub AsksInSparql : Type 0
+AsksInSparql = request_of (record { heads = heads_of transaction.TheVariants.Subscribe; ask = ask.TheVariants.Subscribe (wish.TheVariants.Sparql (codes "SELECT*{}")) })
+    ≡ asked transaction.TheVariants.Subscribe (one_text (codes "type") (codes "sparql") ∷ one_text (codes "query") (codes "SELECT*{}") ∷ [])
+
+-- a confirm without a success tells its status alone: what stands beside it is not looked at
+abbrev pub TellsRefusal : Type 0
+TellsRefusal = IsTold
+    (record {
+      heads = record (heads_of transaction.TheVariants.Query) { message = message.TheVariants.Confirm };
+      params = one_text (codes "results") (codes "none") ∷ one_text (codes "status") (codes "m3:SIB.Error.AccessDenied") ∷ [];
+    })
+    (incoming.Confirm (record {
+      heads = record (heads_of transaction.TheVariants.Query) { message = message.TheVariants.Confirm };
+      status = status.TheVariants.AccessDenied;
+      subscription = None;
+      answer = None;
+    }))

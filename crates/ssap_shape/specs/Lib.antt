@@ -6,6 +6,11 @@ pub mod Ranks
 pub mod Shape
 pub mod Plain
 pub mod Replies
+pub mod Told
+pub mod Fields
 pub mod Sound
+pub mod Asking
+pub mod Words
+pub mod Sendable
 pub mod Laws
 pub mod Examples

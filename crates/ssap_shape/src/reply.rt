@@ -27,3 +27,11 @@ pub enum Indication {
         status: Status,
     },
 }
+
+/// What a message from a broker tells a client: the confirm of a request, an indication, or nothing that is either.
+#[derive(Debug, Drop)]
+pub enum Incoming {
+    Confirm(Confirm),
+    Indication(Indication),
+    Other { heads: Heads },
+}

@@ -11,7 +11,8 @@ use m3_terms::NoMemory;
 use ssap_items::{Body, Envelope, Heads, MessageType, Param, Params};
 use std::alloc::Global;
 
-fn copied_heads(heads: &Heads, message: MessageType) -> Result<Heads, NoMemory>
+/// The heads of a message, as those of another type.
+pub fn copied_heads(heads: &Heads, message: MessageType) -> Result<Heads, NoMemory>
     ensures { IfOk result (λ copied. copied ≡ heads_with message heads.now) }
 {
     Ok(Heads {
@@ -23,7 +24,8 @@ fn copied_heads(heads: &Heads, message: MessageType) -> Result<Heads, NoMemory>
     })
 }
 
-fn param(alloc: Global, name: Name, body: Body) -> Result<Param, NoMemory>
+/// A parameter without an encoding.
+pub fn param(alloc: Global, name: Name, body: Body) -> Result<Param, NoMemory>
     ensures { IfOk result (λ param. param ≡ sent_param name body) }
 {
     Ok(Param {

@@ -1,5 +1,6 @@
 ghost use Rattle.std.specs.Prelude.{◌≡◌};
 ghost use Rattle.ssap_shape.specs.Replies.{status_word};
+ghost use Rattle.ssap_shape.specs.Told.{is_success as success};
 
 /// The outcome of a request, as its confirm states it.
 #[derive(Clone, Copy, Debug, PartialEq, Eq)]
@@ -21,6 +22,21 @@ pub enum Status {
 }
 
 impl Status {
+    /// Whether the request took effect.
+    pub fn is_success(self) -> bool
+        ensures { result ≡ success self }
+    {
+        match self {
+            Status::Success => true,
+            Status::AccessDenied
+            | Status::OutOfResources
+            | Status::NotImplemented
+            | Status::Request
+            | Status::Incomplete
+            | Status::Syntax => false,
+        }
+    }
+
     /// The status as it is written in a message.
     #[tactic(auto, unfolding(crate::specs::Replies::status_word))]
     pub fn as_bytes(self) -> &'static [u8]
