@@ -1,0 +1,9 @@
+pub mod SameColumns
+pub mod FoundRows
+pub mod FoundByForm
+pub mod OneForm
+pub mod FirstRows
+pub mod MirrorFolds
+pub mod ExactRefusals
+pub mod TakenConfirms
+pub mod ToldCauses
