@@ -31,14 +31,14 @@ impl<K: Sink> Gather<'_, K> {
         result
     }
 
-    /// Puts an envelope, and gives what is held at its end.
-    fn put_all(&mut self, envelope: &Envelope) -> Result<(), Failed>
+    /// Puts what has a spelling, and gives what is held at its end.
+    fn put_all<T: Spell>(&mut self, spelled: &T) -> Result<(), Failed>
         requires { self.old.held ≡ [] }
         ensures same_reference { self.new.sink.ghost_name ≡ self.old.sink.ghost_name }
-        ensures written { Writes (K.given self.old.sink.now) (K.given self.new.sink.now) result (canonical envelope.now) }
+        ensures written { Writes (K.given self.old.sink.now) (K.given self.new.sink.now) result (T.spelling spelled.now) }
         ensures cause { HasCause (K.faults self.old.sink.now) (K.faults self.new.sink.now) result }
     {
-        envelope.put(self)?;
+        spelled.put(self)?;
         self.give()
     }
 }
@@ -83,6 +83,15 @@ pub fn write<K: Sink>(envelope: &Envelope, sink: &mut K) -> Result<(), Failed>
     ensures written { Writes (K.given sink.old) (K.given sink.new) result (canonical envelope.now) }
     ensures cause { HasCause (K.faults sink.old) (K.faults sink.new) result }
 {
+    write_spelled(envelope, sink)
+}
+
+/// Writes what has a spelling to a sink, as `write` does an envelope: in pieces of at least 4,096 bytes but for the last,
+/// without memory and without a flush. After `Failed` the sink was given a prefix of the spelling.
+pub fn write_spelled<T: Spell, K: Sink>(spelled: &T, sink: &mut K) -> Result<(), Failed>
+    ensures written { Writes (K.given sink.old) (K.given sink.new) result (T.spelling spelled.now) }
+    ensures cause { HasCause (K.faults sink.old) (K.faults sink.new) result }
+{
     let held = Buffer::new();
-    Gather { sink, held }.put_all(envelope)
+    Gather { sink, held }.put_all(spelled)
 }

@@ -1,4 +1,5 @@
-//! Writes envelopes in their canonical spelling: into a vector, to a sink, or as a count of bytes alone.
+//! Writes envelopes in their canonical spelling: into a vector, to a sink, or as a count of bytes alone. The pieces that a
+//! spelling is made of are there for other things that are written to a sink.
 #![tactic(auto)]
 
 mod buffer;
@@ -16,5 +17,8 @@ mod vector;
 
 pub use counting::length;
 pub use fault::EncodeFault;
-pub use gather::write;
+pub use gather::{write, write_spelled};
+pub use out::Out;
+pub use spell::{Each, Nothing, Raw, Spell, Then};
+pub use text::Escaped;
 pub use vector::to_bytes;
