@@ -1,3 +1,11 @@
 pub mod Talk
 pub mod Reading
+pub mod Lines
+pub mod Stages
+pub mod Saying
+pub mod Listening
+pub mod Ending
+pub mod Words
+pub mod Laws
+pub mod Turn
 pub mod Examples

@@ -1,9 +1,9 @@
 -- What the bytes of a link tell a client, and the talk that comes of them.
-use Rattle.std.specs.Prelude.{◌≡◌, ℕ, ◌+◌, ◌≤◌, List, [], ◌∷◌, ◌++◌, length, ⊤}
-use Rattle.std.specs.List.{AllByRecursion, AllZip}
-use Rattle.ssap_grammar.specs.Stream.{Placed, Stream, IsViable, IsWhole, AreMessages, IsInside}
+use Rattle.std.specs.Prelude.{◌≡◌, ◌⊎◌, ℕ, ◌+◌, List, [], ◌∷◌, ◌++◌, length, ⊤}
+use Rattle.std.specs.List.{AllZip}
+use Rattle.ssap_grammar.specs.Stream.{Placed, Stream, IsViable, IsWhole, IsInside}
 use Rattle.ssap_decode.specs.Decoding.{message_limit}
-use Rattle.ssap_decode.specs.Standing.{IsShort}
+use Rattle.ssap_hearing.specs.Hearing.{AreLet}
 use Rattle.ssap_shape.specs.declared.reply.Incoming.{Incoming}
 use Rattle.ssap_shape.specs.Told.{IsTold}
 use Rattle.kp_talk.specs.Talk.{Talk, talk_over}
@@ -11,14 +11,6 @@ use Rattle.kp_talk.specs.declared.errand.Errand.{Errand}
 use Rattle.kp_talk.specs.declared.finish.Finish.{Finish}
 use Rattle.kp_talk.specs.declared.finish.Finish.TheVariants.{Done, Refused, Ended as End, BrokenSubscription, BrokenGap, BrokenForm, BrokenConflict, BrokenMessage, BrokenStream, Over}
 use Rattle.kp_talk.specs.declared.finish.Break.TheVariants.{Syntax, Long, Cut}
-
--- the grammar and the limit let these bytes through, whose messages these are: a stream goes on from them, and neither one
--- of the messages nor what stands behind them is too long
-pub record AreLet (bytes : List ℕ) (messages : List Placed) : Type 0 where
-  pub viable : IsViable bytes
-  pub are : AreMessages bytes messages
-  pub short : AllByRecursion IsShort messages
-  pub rest_short : (whole : ℕ) → IsWhole bytes whole → length bytes ≤ whole + message_limit
 
 -- how the input finishes behind these bytes, where those follow: with the next byte no stream goes on, or one does and the
 -- byte is the first above the limit of its message; where none follows, a message is cut, or the input is over between messages
@@ -54,12 +46,28 @@ pub record Tells (bytes : List ℕ) (told : List Incoming) (last : Finish) : Typ
   pub each : AllZip TellsOf messages told
   pub ends : FinishesBehind front rest last
 
--- the talk on an errand over the bytes of a link
-pub record IsTalk (errand : Errand) (bytes : List ℕ) (talk : Talk) : Type 0 where
+-- the talk over all that the bytes of a link tell
+pub record IsWholeTalk (errand : Errand) (bytes : List ℕ) (talk : Talk) : Type 0 where
   pub told : List Incoming
   pub last : Finish
   pub tells : Tells bytes told last
   pub said : talk ≡ talk_over last errand told
+
+-- the talk that the messages of a prefix finish, whatever is told behind them
+pub record IsEarlyTalk (errand : Errand) (bytes : List ℕ) (talk : Talk) : Type 0 where
+  pub front : List ℕ
+  pub rest : List ℕ
+  pub split : bytes ≡ front ++ rest
+  pub messages : List Placed
+  pub through : AreLet front messages
+  pub stream : Stream front messages
+  pub told : List Incoming
+  pub each : AllZip TellsOf messages told
+  pub settled : (more : List Incoming) (last : Finish) → talk_over last errand (told ++ more) ≡ talk
+
+-- the talk on an errand over the bytes of a link: a message finishes it, or it goes on to where the bytes finish
+abbrev pub IsTalk : Errand → List ℕ → Talk → Type 0
+IsTalk errand bytes talk = IsEarlyTalk errand bytes talk ⊎ IsWholeTalk errand bytes talk
 
 -- nothing was broken by the bytes: they finish between messages, or inside one
 abbrev pub IsClean : Finish → Type 0

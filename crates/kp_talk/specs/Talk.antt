@@ -1,17 +1,14 @@
 -- What a client says and prints on an errand: a function of the messages that it is told.
-use Rattle.std.specs.Prelude.{◌≡◌, ℕ, zero, suc, ◌+◌, ◌==◌, Bool, true, false, ◌&&◌, if◌then◌else◌, List, [], ◌∷◌, ◌++◌, length, codes, Option, Some, None}
+use Rattle.std.specs.Prelude.{ℕ, zero, suc, ◌+◌, ◌==◌, true, if◌then◌else◌, List, [], ◌∷◌, Option, Some, None}
 use Rattle.std.specs.Fmt.{decimal}
-use Rattle.std.specs.Str.{bytes_eq}
 use Rattle.m3_terms.specs.declared.pattern.Pattern.{Pattern}
 use Rattle.m3_terms.specs.declared.pattern.Slot.TheVariants.{Is}
 use Rattle.m3_terms.specs.declared.triple.Triple.{Triple}
 use Rattle.ssap_items.specs.declared.heads.MessageType as message
 use Rattle.ssap_items.specs.declared.heads.Transaction.{Transaction}
 use Rattle.ssap_items.specs.declared.heads.Transaction as transaction
-use Rattle.ssap_items.specs.declared.heads.Heads.{Heads}
 use Rattle.answer_bodies.specs.declared.answer.Answer.{Answer}
 use Rattle.answer_bodies.specs.declared.answer.Difference.{Difference}
-use Rattle.ssap_shape.specs.declared.status.Status.{Status}
 use Rattle.ssap_shape.specs.declared.request.Wish as wish
 use Rattle.ssap_shape.specs.declared.request.Ask.{Ask}
 use Rattle.ssap_shape.specs.declared.request.Ask as ask
@@ -91,7 +88,7 @@ abbrev pub leaves : Finish → Errand → ℕ → List Incoming → Talk
 leaves last errand number told =
     asks last (request_at errand number transaction.TheVariants.Leave ask.TheVariants.Leave) (λ confirm rest. finished finish.Done) told
 
--- how a talk finishes at a difference that a mirror refuses
+-- how a talk finishes at a difference that a mirror refuses (`refusal` never is out of memory)
 abbrev pub broken : MirrorFault → Finish
 broken (fault.OtherSubscription want got) = finish.BrokenSubscription want got
 broken (fault.Gap want got) = finish.BrokenGap want got
@@ -129,7 +126,7 @@ subscribed last errand count (Some number) None rest = finished finish.BrokenMes
 subscribed last errand count (Some number) (Some answer) rest =
     prints (Answered 0 answer) (follows last errand count (mirror_of number answer) rest)
 
--- a triple as a template that fits it alone
+-- a triple as a template of its three terms
 abbrev pub template_of : Triple → Pattern
 template_of triple = record { subject = Is triple.subject; predicate = Is triple.predicate; object = Is triple.object }
 
@@ -145,7 +142,7 @@ performs last errand (Watch text count) told =
     asks last (request_at errand 2 transaction.TheVariants.Subscribe (ask.TheVariants.Subscribe (wish.TheVariants.Sparql text)))
     (λ confirm rest. subscribed last errand count confirm.subscription confirm.answer rest) told
 
--- the talk on an errand, over the messages that are told and what comes behind the last of them
+-- the talk on an errand, over the messages that are told; `last` is how the input finishes behind the last of them
 abbrev pub talk_over : Finish → Errand → List Incoming → Talk
 talk_over last errand told =
     asks last (request_at errand 1 transaction.TheVariants.Join ask.TheVariants.Join) (λ confirm rest. performs last errand errand.task rest) told

@@ -1,3 +1,6 @@
+ghost use Rattle.std.specs.Prelude.{◌≡◌};
+ghost use Rattle.kp_talk.specs.Lines.{status_of};
+
 use ssap_shape::Status;
 
 /// How the bytes of a link break a stream of messages.
@@ -34,4 +37,23 @@ pub enum Finish {
     BrokenStream { place: u64, kind: Break },
     /// The input ended between messages.
     Over,
+}
+
+impl Finish {
+    /// The exit status.
+    pub fn status(self) -> u8
+        ensures { result ≡ status_of self }
+    {
+        match self {
+            Finish::Done => 0,
+            Finish::Refused(_) | Finish::Ended(_) => 8,
+            Finish::BrokenSubscription { .. }
+            | Finish::BrokenGap { .. }
+            | Finish::BrokenForm
+            | Finish::BrokenConflict
+            | Finish::BrokenMessage
+            | Finish::BrokenStream { .. } => 9,
+            Finish::Over => 10,
+        }
+    }
 }

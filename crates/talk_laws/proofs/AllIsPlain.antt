@@ -1,5 +1,5 @@
 -- What a broker sends may be spelled within the limit, where it is read back as what it tells.
-use Rattle.std.proofs.Common.{◌≡◌, ◌≢◌, ◌≤◌, ◌<◌, ◌^◌, ◌+◌, ◌%◌, ℕ, List, [], ◌∷◌, ◌++◌, length, Option, Some, None, refl, sym, subst, arith}
+use Rattle.std.proofs.Common.{◌≡◌, ◌≢◌, ◌<◌, ◌^◌, ◌+◌, ◌%◌, ℕ, List, [], ◌∷◌, ◌++◌, Some, None, arith}
 use Rattle.std.specs.Fmt.{decimal}
 use Rattle.std.proofs.lemmas.Fmt.{decimal_by_steps}
 use Rattle.m3_terms.specs.Text.{IsText}
@@ -10,7 +10,7 @@ use Rattle.ssap_items.specs.declared.heads.Heads.{Heads}
 use Rattle.answer_bodies.specs.declared.answer.Answer.{Answer}
 use Rattle.answer_bodies.specs.declared.answer.Difference.{Difference}
 use Rattle.ssap_shape.specs.Replies.{heads_with}
-use Rattle.ssap_shape.specs.Sound.{IsSoundId, AreSoundHeads}
+use Rattle.ssap_shape.specs.Sound.{AreSoundHeads}
 use Rattle.ssap_shape.specs.declared.request.Wish.TheVariants.{Sparql}
 use Rattle.ssap_shape.specs.declared.status.Status.{Status}
 use Rattle.ssap_shape.specs.declared.status.Status.TheVariants.{Success}
@@ -26,7 +26,7 @@ use Rattle.talk_laws.proofs.AnswersAreSound.{answers_sound}
 use Rattle.talk_laws.proofs.RepliesAreSayable.{decimal_text, confirm_sayable, indication_sayable}
 use Rattle.talk_laws.proofs.SpellingsAreShort.{digits_short, confirm_short, ended_short}
 use Rattle.talk_laws.proofs.StreamsOfSpellings.{told_in_order}
-use Rattle.talk_laws.proofs.Plain.{IsPlain, IsSmall, IsSaid, AllPlain, confirm_with, envelope_of, spelled}
+use Rattle.talk_laws.proofs.Plain.{IsSmall, IsSaid, AllPlain, confirm_with, envelope_of}
 use Rattle.talk_laws.proofs.DeliveriesHere.{NumbersAreIds}
 use Rattle.talk_laws.proofs.RunsAreKnown.{AnswersAreSaid}
 use Rattle.talk_laws.proofs.AllIsTrue.{all_true}

@@ -1,8 +1,6 @@
 -- What is printed is true.
-use Rattle.std.proofs.Common.{ℕ, List, length, ◌<◌, ◌^◌}
 use Rattle.talk_laws.specs.Truth.{PrintedAnswersAreTrue}
 use Rattle.talk_laws.proofs.Plain.{AllPlain}
-use Rattle.talk_laws.proofs.Fits.{Given}
 use Rattle.talk_laws.proofs.PrintedIsTrue.{ToldInOrder, printed_true}
 use Rattle.talk_laws.proofs.CallsGo.{calls_go}
 use Rattle.talk_laws.proofs.HereGoes.{here_goes}

@@ -1,5 +1,5 @@
 -- A call gives one number at most to a subscription, and tells each one change at most.
-use Rattle.std.proofs.Common.{◌≡◌, ◌≢◌, ◌≤◌, ◌<◌, ℕ, zero, suc, ◌+◌, ◌==◌, Bool, true, false, List, [], ◌∷◌, ◌++◌, length, Contains, Option, Some, None, refl, sym, ap, subst, ◌∙◌, arith, if◌then◌else◌, length-append}
+use Rattle.std.proofs.Common.{◌≡◌, ◌≢◌, ◌≤◌, ℕ, ◌+◌, Bool, true, false, List, [], ◌∷◌, ◌++◌, length, Contains, Option, Some, None, sym, subst, arith, if◌then◌else◌, length-append}
 use Rattle.std.proofs.lemmas.Bool.{cases_eq}
 use mathlib.Core.Logic.{⊎_elim}
 use Rattle.m3_terms.specs.declared.triple.Triple.{Triple}
@@ -19,7 +19,7 @@ use Rattle.session_core.specs.Queues.{queue}
 use Rattle.session_core.specs.Following.{Change, is_told, difference_over, tell_living, change_at, change_among}
 use Rattle.session_core.specs.Steps.{Step, delivered, on_open, on_opened, take_step, taken_from, step}
 use Rattle.session_core.specs.Runs.{run, run_from}
-use Rattle.session_core.specs.Watching.{Beginning, changes_by_ask, changes_by_arrived, changes_by, changes_from, begun_from, changes, begun_by}
+use Rattle.session_core.specs.Watching.{Beginning, changes_by_ask, changes_by_arrived, changes_by, changes_from, changes, begun_by}
 use Rattle.session_core.specs.declared.call.Call.{Call}
 use Rattle.session_core.specs.declared.call.Call.TheVariants as call
 use Rattle.session_core.proofs.NumbersDiffer.{AreOthers, HaveOwn, DoDiffer}

@@ -1,19 +1,16 @@
 -- Each call of a history goes.
-use Rattle.std.proofs.Common.{◌≡◌, ◌≢◌, ◌⊎◌, ℕ, suc, ◌+◌, ◌==◌, Bool, true, false, List, [], ◌∷◌, ◌++◌, length, Contains, Option, Some, None, refl, sym, ap, subst, ◌∙◌, arith, if◌then◌else◌}
+use Rattle.std.proofs.Common.{◌≡◌, ◌≢◌, ℕ, suc, ◌+◌, ◌==◌, Bool, List, [], ◌∷◌, ◌++◌, length, Contains, Option, refl, sym, ap, subst, arith, if◌then◌else◌}
 use Rattle.std.proofs.lemmas.Bool.{cases_eq, eq-eqb, ne_eqb}
 use mathlib.Core.Logic.{⊎_elim}
-use Rattle.ssap_shape.specs.declared.request.Wish.TheVariants.{Sparql}
 use Rattle.ssap_shape.specs.declared.request.Arrived.{Arrived}
 use Rattle.session_core.specs.Space.{Space, empty_space}
-use Rattle.session_core.specs.Subscriptions.{Subscription, answer_over, wanted_by}
+use Rattle.session_core.specs.Subscriptions.{Subscription, answer_over}
 use Rattle.session_core.specs.Runs.{run}
 use Rattle.session_core.specs.Steps.{step}
-use Rattle.session_core.specs.Following.{Change}
 use Rattle.session_core.specs.Watching.{changes_by}
 use Rattle.session_core.specs.declared.call.Call.{Call}
 use Rattle.session_core.specs.declared.call.Call.TheVariants as call
-use Rattle.kp_talk.specs.declared.errand.Errand.{Errand}
-use Rattle.talk_laws.specs.Truth.{delivered_on, IsTrue, IsCause, TellsOn}
+use Rattle.talk_laws.specs.Truth.{IsTrue, IsCause, TellsOn}
 use Rattle.talk_laws.proofs.Stages.{Stage, point_of}
 use Rattle.talk_laws.proofs.Plain.{AllPlain}
 use Rattle.talk_laws.proofs.QuietSteps.{Housed}

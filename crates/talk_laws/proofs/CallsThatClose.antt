@@ -1,5 +1,5 @@
 -- Steps in which nothing is sent on a link: the talk fits as before, or the link is shut.
-use Rattle.std.proofs.Common.{◌≡◌, ◌≢◌, ◌⊎◌, ◌≤◌, ◌<◌, ℕ, zero, suc, ◌+◌, Bool, true, false, List, [], ◌∷◌, ◌++◌, length, Contains, Option, Some, None, option_map, refl, sym, ap, subst, ◌∙◌, inl, inr, arith, if◌then◌else◌}
+use Rattle.std.proofs.Common.{◌≡◌, ◌≢◌, ◌⊎◌, ◌≤◌, ℕ, zero, suc, Bool, true, false, List, [], ◌∷◌, ◌++◌, Option, Some, None, option_map, refl, sym, ap, ◌∙◌, inl, inr, arith, if◌then◌else◌}
 use Rattle.std.proofs.lemmas.Bool.{cases_eq, cases_Bool}
 use mathlib.Core.Bool.{true≢false}
 use mathlib.Core.Logic.{⊎_elim}
@@ -17,12 +17,11 @@ use Rattle.session_core.specs.Steps.{Step, on_open, on_opened, take_step, taken_
 use Rattle.session_core.specs.declared.call.Call.TheVariants as call
 use Rattle.session_core.proofs.Changes.{link_at-place, push_old}
 use Rattle.kp_talk.specs.declared.errand.Errand.{Errand}
-use Rattle.talk_laws.specs.Truth.{IsUnbroken}
-use Rattle.talk_laws.proofs.Stages.{Point, Joins, Asks, Follows, Unsubscribes, LeavesAsked, LeavesWatched, Stage, At, Closed, written, point_of}
+use Rattle.talk_laws.proofs.Stages.{Joins, Asks, Follows, Unsubscribes, LeavesAsked, LeavesWatched, Stage, At, Closed, point_of}
 use Rattle.talk_laws.proofs.LinksTakeOrClose.{IsShut}
 use Rattle.talk_laws.proofs.QuietSteps.{Vacant, Housed, Quiet, quiet_same}
 use Rattle.talk_laws.proofs.TurnsAreHeard.{shut_vacant, open_known}
-use Rattle.talk_laws.proofs.Fits.{Holds, Mirrors, FitsMirror, FitsAt, Fits, Suits, Given, Goes}
+use Rattle.talk_laws.proofs.Fits.{Holds, Fits, Suits, Given, Goes}
 
 -- a link is as it was, or it is shut
 pub record Closes (link : ℕ) (old new : Space) : Type 0 where

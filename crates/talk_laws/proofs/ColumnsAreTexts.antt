@@ -1,5 +1,5 @@
 -- The columns of the answers to a text are texts.
-use Rattle.std.proofs.Common.{◌≡◌, ℕ, zero, suc, nat_le, ◌==◌, Bool, true, false, ◌&&◌, ◌||◌, not, cond, List, [], ◌∷◌, ◌++◌, filter, flat_map, map, length, slice_get, Option, Some, None, Result, Ok, Err, refl, sym, ap, subst, ◌∙◌, arith, append-nil, if◌then◌else◌}
+use Rattle.std.proofs.Common.{◌≡◌, ℕ, zero, suc, Bool, true, false, ◌&&◌, not, cond, List, [], ◌∷◌, filter, flat_map, map, length, slice_get, Some, Result, Ok, Err, refl, sym, ap, subst, ◌∙◌, arith}
 use Rattle.std.specs.Prelude.{unwrap_or}
 use Rattle.std.specs.List.{AllByRecursion, list_all}
 use Rattle.std.proofs.lemmas.Option.{same_Some}
@@ -10,7 +10,7 @@ use Rattle.m3_terms.specs.declared.triple.Triple.{Triple}
 use Rattle.sparql_algebra.specs.declared.var.Var.{Var}
 use Rattle.sparql_algebra.specs.declared.algebra.Query.{Query}
 use Rattle.sparql_text.specs.declared.fault.ReadFault.{ReadFault}
-use Rattle.sparql_text.specs.Tokens.{Token, Iri, Name, Variable, String, Fixed, Spells, is_letter, is_name_byte}
+use Rattle.sparql_text.specs.Tokens.{Token, Iri, Name, Variable, String, Fixed, Spells, is_name_byte}
 use Rattle.sparql_text.specs.Lexing.{Placed, Lexes, NoToken, Goes}
 use Rattle.sparql_text.specs.Faults.{Says, alone}
 use Rattle.sparql_text.specs.Scope.{firsts, name_of}

@@ -1,10 +1,9 @@
 -- The talk fits after the confirm of a request that was delivered.
-use Rattle.std.proofs.Common.{◌≡◌, ◌≢◌, ◌⊎◌, ◌≤◌, ◌<◌, ℕ, zero, suc, ◌+◌, ◌==◌, Bool, true, false, ◌&&◌, List, [], ◌∷◌, ◌++◌, length, Option, Some, None, refl, sym, ap, subst, ◌∙◌, inl, inr, arith, if◌then◌else◌}
+use Rattle.std.proofs.Common.{◌≡◌, ◌⊎◌, ◌≤◌, ◌<◌, ℕ, zero, suc, ◌+◌, ◌==◌, Bool, true, false, ◌&&◌, List, [], ◌∷◌, ◌++◌, length, Option, Some, None, refl, sym, ap, subst, ◌∙◌, inl, inr, arith}
 use Rattle.std.specs.List.{AllByRecursion}
 use Rattle.std.specs.Str.{bytes_eq}
 use Rattle.std.proofs.lemmas.Bool.{eq-eqb}
 use mathlib.Core.Bool.{true≢false}
-use mathlib.Core.Logic.{⊎_elim}
 use Rattle.m3_terms.specs.OrderLaws.{text_eq_equiv}
 use Rattle.m3_terms.specs.declared.triple.Triple.{Triple}
 use Rattle.link_table.specs.Links.{Link, is_open, state_of}
@@ -23,15 +22,12 @@ use Rattle.kp_client.specs.Asked.{transaction_number, is_awaited}
 use Rattle.kp_client.specs.Mirroring.{Mirroring, mirror_of}
 use Rattle.kp_talk.specs.declared.errand.Task.{Task}
 use Rattle.kp_talk.specs.declared.errand.Task.TheVariants.{Insert, Query, Watch}
-use Rattle.kp_talk.specs.declared.errand.Errand.{Errand}
 use Rattle.kp_talk.specs.declared.finish.Finish.{Finish}
-use Rattle.kp_talk.specs.declared.finish.Finish.TheVariants.{Done, Refused, BrokenMessage}
-use Rattle.kp_talk.specs.Talk.{Line, Answered}
+use Rattle.kp_talk.specs.Talk.{Line}
 use Rattle.talk_laws.specs.Truth.{IsTrue, IsTrueLine, IsUnbroken}
-use Rattle.talk_laws.proofs.Stages.{Point, Joins, Asks, Follows, Unsubscribes, LeavesAsked, LeavesWatched, Stage, At, Closed, Move, join, second_of, second, unsubscribe, leave, written, point_of, following, performed, queried, watched, succeeds, awaited, judged, by_confirm, move, to, through, lines_on}
+use Rattle.talk_laws.proofs.Stages.{Point, Joins, Asks, Follows, Unsubscribes, LeavesAsked, LeavesWatched, Stage, At, Closed, Move, join, second_of, second, unsubscribe, leave, written, point_of, following, performed, queried, watched, succeeds, awaited, judged, by_confirm, move, through, lines_on}
 use Rattle.talk_laws.proofs.Plain.{confirm_with}
-use Rattle.talk_laws.proofs.LinksTakeOrClose.{IsShut}
-use Rattle.talk_laws.proofs.Fits.{Mirrors, FitsMirror, FitsAt, Fits, Suits, Given}
+use Rattle.talk_laws.proofs.Fits.{Mirrors, FitsMirror, Fits, Suits, Given}
 
 -- a confirm with the heads of a request is awaited by it
 awaited_same : (heads : Heads) → is_awaited heads (heads_with message.TheVariants.Confirm heads) ≡ true

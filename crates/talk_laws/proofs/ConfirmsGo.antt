@@ -1,5 +1,5 @@
 -- The confirm of a request on the link of a talk, and the ends that are told behind it: the talk fits again.
-use Rattle.std.proofs.Common.{◌≡◌, ◌≢◌, ◌⊎◌, ◌≤◌, ◌<◌, ℕ, zero, suc, ◌+◌, ◌==◌, Bool, true, false, not, List, [], ◌∷◌, ◌++◌, length, map, filter, Contains, Option, Some, None, refl, sym, ap, subst, ◌∙◌, inl, inr, arith, if◌then◌else◌, append-nil, append_assoc}
+use Rattle.std.proofs.Common.{◌≡◌, ◌≢◌, ◌≤◌, ℕ, ◌+◌, Bool, true, false, not, List, [], ◌∷◌, ◌++◌, map, filter, Contains, Option, Some, None, refl, sym, ap, subst, ◌∙◌, arith, append-nil, append_assoc}
 use Rattle.std.specs.List.{AllByRecursion}
 use Rattle.std.proofs.lemmas.Bool.{cases_Bool}
 use mathlib.Core.Bool.{true≢false}
@@ -14,14 +14,14 @@ use Rattle.ssap_shape.specs.declared.status.Status.TheVariants.{Success}
 use Rattle.answer_bodies.specs.declared.answer.Answer.{Answer}
 use Rattle.session_core.specs.Space.{Space}
 use Rattle.session_core.specs.Subscriptions.{Subscription, ended_by}
-use Rattle.session_core.specs.Queues.{queue, with_links}
+use Rattle.session_core.specs.Queues.{queue}
 use Rattle.session_core.specs.Following.{takes, tell_ends}
 use Rattle.session_core.proofs.WhatFollowsHolds.{ends_hold}
 use Rattle.session_core.proofs.Growing.{IsAlike, alike_holds}
 use Rattle.ssap_shape.specs.declared.reply.Incoming.{Incoming}
 use Rattle.ssap_shape.specs.declared.reply.Incoming.TheVariants.{Confirm as Confirmed, Indication as Indicated}
 use Rattle.talk_laws.specs.Truth.{IsTrueLine}
-use Rattle.talk_laws.proofs.Stages.{Stage, point_of, through, lines_on, through_more, lines_more}
+use Rattle.talk_laws.proofs.Stages.{Stage, point_of, through, lines_on, lines_more}
 use Rattle.talk_laws.proofs.Plain.{IsPlain, AllPlain, confirm_with, spelled}
 use Rattle.talk_laws.proofs.LinksTakeOrClose.{IsShut, took, missed}
 use Rattle.talk_laws.proofs.QuietSteps.{Vacant, Housed, Quiet}

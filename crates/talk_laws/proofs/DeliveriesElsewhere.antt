@@ -1,58 +1,33 @@
 -- What is delivered on another link: the talk fits again.
-use Rattle.std.proofs.Common.{◌≡◌, ◌≢◌, ◌⊎◌, ◌≤◌, ℕ, zero, suc, ◌+◌, ◌==◌, Bool, true, false, not, List, [], ◌∷◌, ◌++◌, length, map, drop, filter, Contains, Option, Some, None, refl, sym, ap, subst, ◌∙◌, inl, inr, arith, if◌then◌else◌, append-nil}
+use Rattle.std.proofs.Common.{◌≡◌, ◌≢◌, ◌≤◌, ℕ, ◌+◌, Bool, true, false, not, List, [], ◌++◌, length, map, drop, filter, Contains, Option, Some, None, refl, sym, ap, subst, ◌∙◌, append-nil}
 use Rattle.std.specs.List.{AllByRecursion}
 use Rattle.std.proofs.lemmas.Bool.{cases_Bool}
 use Rattle.std.proofs.lemmas.List.{drop_at}
-use Rattle.std.proofs.lemmas.List.Elements.{Contains-push_cases, Contains-append_left}
 use mathlib.Core.Bool.{true≢false}
 use mathlib.Core.Logic.{⊎_elim}
 use Rattle.m3_terms.specs.InsertedLaws.{was_there, is_kept}
-use Rattle.m3_terms.specs.declared.pattern.Pattern.{Pattern}
 use Rattle.sparql_algebra.proofs.ListMembers.{kept}
-use Rattle.answer_bodies.specs.Differences.{MayFollow, is_empty_difference}
-use Rattle.answer_bodies.proofs.DifferenceLaws.{empty_exactly}
-use Rattle.link_table.specs.Links.{Link, is_open, link_at, changed, ended, state_of, state_or_never, pending_of, pending_or_none}
-use Rattle.link_table.specs.declared.state.LinkState.{LinkState}
-use Rattle.link_table.specs.declared.state.LinkState.TheVariants.{Never, Open, Ended, Overrun, Gone}
-use Rattle.link_table.proofs.OtherLinksStay.{link_at-others}
-use Rattle.ssap_items.specs.declared.heads.Heads.{Heads}
+use Rattle.answer_bodies.specs.Differences.{MayFollow}
+use Rattle.link_table.specs.Links.{link_at, pending_of, pending_or_none}
 use Rattle.ssap_items.specs.declared.heads.Transaction as transaction
 use Rattle.ssap_shape.specs.Sound.{AreSoundHeads}
 use Rattle.ssap_shape.specs.declared.request.Wish.TheVariants.{Sparql}
-use Rattle.ssap_shape.specs.declared.request.Ask.{Ask}
-use Rattle.ssap_shape.specs.declared.request.Ask.TheVariants.{Join, Leave, Update, Query, Subscribe, Unsubscribe}
-use Rattle.ssap_shape.specs.declared.request.Request as asked
-use Rattle.ssap_shape.specs.declared.request.Arrived.{Arrived}
-use Rattle.ssap_shape.specs.declared.request.Arrived.TheVariants.{Request, Wrong, NotRequest}
 use Rattle.ssap_shape.specs.declared.status.Status.TheVariants.{Success}
 use Rattle.session_core.specs.Space.{Space}
-use Rattle.session_core.specs.Graph.{graph_after}
-use Rattle.session_core.specs.Requests.{verdict, is_success, granted, subscribed, done_with, due_with, confirm, wrong_status}
-use Rattle.session_core.specs.Subscriptions.{Subscription, Wanted, wanted_by, answer_over, numbers_of, is_of, is_named, heads_for, ended_by}
-use Rattle.session_core.specs.Queues.{queue, with_links}
-use Rattle.session_core.specs.Following.{Change, difference_over, tell_ends, tell_changes, change_among, follow}
-use Rattle.session_core.specs.Steps.{delivered, on_open, step}
-use Rattle.session_core.specs.Runs.{sent_by}
-use Rattle.session_core.specs.Watching.{changes_by_arrived, changes_by_ask, changes_by}
-use Rattle.session_core.specs.declared.call.Call.TheVariants as call
-use Rattle.session_core.proofs.NumbersDiffer.{HaveOwn, number_in}
-use Rattle.session_core.proofs.WhatFollowsHolds.{queue_holds}
-use Rattle.session_core.proofs.Growing.{IsAlike, alike_holds}
-use Rattle.session_core.proofs.ChangesLeadOn.{own_holds}
-use Rattle.ssap_shape.specs.declared.reply.Incoming.{Incoming}
+use Rattle.session_core.specs.Subscriptions.{Subscription, Wanted, wanted_by, answer_over, heads_for, ended_by}
+use Rattle.session_core.specs.Following.{difference_over, tell_ends}
+use Rattle.session_core.proofs.NumbersDiffer.{HaveOwn}
 use Rattle.ssap_shape.specs.declared.reply.Incoming.TheVariants.{Indication as Indicated}
-use Rattle.kp_talk.specs.declared.errand.Errand.{Errand}
-use Rattle.talk_laws.specs.Truth.{IsTrue, IsTrueLine}
-use Rattle.talk_laws.proofs.Stages.{Stage, point_of, through, lines_on}
+use Rattle.talk_laws.specs.Truth.{IsTrueLine}
+use Rattle.talk_laws.proofs.Stages.{Stage, point_of}
 use Rattle.talk_laws.proofs.Plain.{IsSaid, AllPlain, IsSmall, spelled}
-use Rattle.talk_laws.proofs.LinksTakeOrClose.{IsShut}
-use Rattle.talk_laws.proofs.QuietSteps.{Vacant, Housed, Quiet, quiet_same, quiet_chain, quiet_queue, quiet_linked, quiet_filter, quiet_vacant}
-use Rattle.talk_laws.proofs.TurnsAreHeard.{Heard, told_more, change_of, turns_heard, open_known}
-use Rattle.talk_laws.proofs.EndsAreHeard.{quiet_ends, ends_heard, EndsHeard, repeated}
+use Rattle.talk_laws.proofs.QuietSteps.{Vacant, Housed, Quiet, quiet_chain, quiet_filter}
+use Rattle.talk_laws.proofs.TurnsAreHeard.{open_known}
+use Rattle.talk_laws.proofs.EndsAreHeard.{quiet_ends, ends_heard, repeated}
 use Rattle.talk_laws.proofs.Fits.{IsOurs, Holds, Fits, Suits, Given, Goes}
 use Rattle.talk_laws.proofs.TalksSuit.{suits_through}
-use Rattle.talk_laws.proofs.CallsThatClose.{Closes, closes_goes, closes_quiet, nothing_goes, fits_same}
-use Rattle.talk_laws.proofs.HeardGoes.{ends_fit, all_plain, end_plain, heard_goes}
+use Rattle.talk_laws.proofs.CallsThatClose.{closes_goes, closes_quiet}
+use Rattle.talk_laws.proofs.HeardGoes.{ends_fit, all_plain, end_plain}
 
 -- what is known of a space before a call and after it
 pub record Known (given : Given) (space new : Space) : Type 0 where

@@ -1,50 +1,32 @@
 -- A request of the talk that is delivered on its link: the talk fits again.
-use Rattle.std.proofs.Common.{◌≡◌, ◌≢◌, ◌⊎◌, ◌≤◌, ◌<◌, ◌^◌, ℕ, zero, suc, ◌+◌, nat_lt, nat_le, Bool, true, false, ◌&&◌, not, List, [], ◌∷◌, ◌++◌, length, filter, Contains, Option, Some, None, Result, Ok, Err, refl, sym, ap, subst, ◌∙◌, inl, inr, arith, if◌then◌else◌}
+use Rattle.std.proofs.Common.{◌≡◌, ◌<◌, ℕ, ◌+◌, Bool, true, false, List, Option, Some, None, refl, sym, ◌∙◌, arith, if◌then◌else◌}
 use Rattle.std.specs.Fmt.{decimal}
-use Rattle.std.proofs.lemmas.Bool.{ltb-false}
-use Rattle.std.proofs.lemmas.Option.{same_Some}
-use Rattle.std.proofs.lemmas.List.Elements.{Contains-push_cases, Contains-push}
 use mathlib.Core.Bool.{true≢false}
-use mathlib.Core.Logic.{⊎_elim}
 use Rattle.m3_terms.specs.declared.triple.Triple.{Triple}
-use Rattle.sparql_algebra.specs.declared.algebra.Query.{Query as Said}
-use Rattle.sparql_algebra.specs.Listed.{rows_of}
-use Rattle.sparql_read.specs.Reading.{reading_of}
-use Rattle.link_table.specs.Links.{Link, is_open, link_at, state_of}
-use Rattle.ssap_items.specs.declared.heads.Heads.{Heads}
+use Rattle.link_table.specs.Links.{Link, is_open, state_of}
 use Rattle.ssap_items.specs.declared.heads.Transaction as transaction
-use Rattle.answer_bodies.specs.declared.answer.Answer.{Answer}
 use Rattle.ssap_shape.specs.Sound.{IsSoundId, AreSoundHeads}
-use Rattle.ssap_shape.specs.declared.request.Wish.TheVariants.{Sparql}
 use Rattle.ssap_shape.specs.declared.request.Ask.{Ask}
 use Rattle.ssap_shape.specs.declared.request.Ask.TheVariants as ask
 use Rattle.ssap_shape.specs.declared.request.Request.{Request as Asked}
 use Rattle.ssap_shape.specs.declared.status.Status.{Status}
 use Rattle.ssap_shape.specs.declared.status.Status.TheVariants.{Success}
 use Rattle.session_core.specs.Space.{Space}
-use Rattle.session_core.specs.Answers.{column_names, answer_of}
-use Rattle.session_core.specs.Subscriptions.{Subscription, Wanted, Selected, wanted_by, wanted_of, answer_over, width_over, is_of, is_named}
-use Rattle.session_core.specs.Requests.{verdict, is_success, granted, subscribed, done_with, due_with, success_due, confirm, granting, answer_for, subscription_for, is_over, is_wide, is_overnamed, text_refusal}
+use Rattle.session_core.specs.Subscriptions.{Subscription, is_of, is_named}
+use Rattle.session_core.specs.Requests.{verdict, is_success, granted, success_due, confirm}
 use Rattle.session_core.specs.Queues.{queue}
-use Rattle.session_core.specs.Following.{follow, follow_with}
-use Rattle.session_core.specs.Steps.{decided}
-use Rattle.ssap_shape.specs.declared.reply.Incoming.{Incoming}
-use Rattle.ssap_shape.specs.declared.reply.Incoming.TheVariants.{Confirm as Confirmed}
+use Rattle.session_core.specs.Following.{follow}
 use Rattle.ssap_shape.specs.Told.{is_success as tells_success}
-use Rattle.kp_client.specs.Mirroring.{mirror_of}
-use Rattle.kp_talk.specs.declared.errand.Errand.{Errand}
-use Rattle.kp_talk.specs.declared.errand.Task.{Task}
-use Rattle.kp_talk.specs.declared.errand.Task.TheVariants.{Insert, Query, Watch}
 use Rattle.kp_talk.specs.Talk.{request_at}
-use Rattle.talk_laws.specs.Truth.{IsErrand, IsTrue, asks_text}
-use Rattle.talk_laws.proofs.Stages.{Point, Joins, Asks, Unsubscribes, LeavesAsked, Stage, point_of, join, second_of, second, unsubscribe, leave, through, lines_on}
-use Rattle.talk_laws.proofs.Plain.{IsPlain, AllPlain, confirm_with, spelled}
-use Rattle.talk_laws.proofs.QuietSteps.{Vacant, Housed}
-use Rattle.talk_laws.proofs.Fits.{IsOurs, Holds, Mirrors, Fits, Suits, Given, Goes}
+use Rattle.talk_laws.specs.Truth.{IsErrand}
+use Rattle.talk_laws.proofs.Stages.{Unsubscribes, LeavesAsked, Stage, point_of, join, unsubscribe, leave}
+use Rattle.talk_laws.proofs.Plain.{AllPlain}
+use Rattle.talk_laws.proofs.QuietSteps.{Vacant}
+use Rattle.talk_laws.proofs.Fits.{Holds, Fits, Suits, Given, Goes}
 use Rattle.talk_laws.proofs.DeliveriesElsewhere.{Known, sent_on}
-use Rattle.talk_laws.proofs.ConfirmsFit.{Says, Fit, first_fits, second_fits, left_fits, unsubscribed_fits, last_fits}
+use Rattle.talk_laws.proofs.ConfirmsFit.{Fit, first_fits, left_fits, unsubscribed_fits, last_fits}
 use Rattle.talk_laws.proofs.ConfirmsGo.{confirm_goes, confirm_ends}
-use Rattle.talk_laws.proofs.GrantedPasses.{same_success, reading_so, reading_refuses, granted_passes, or_second}
+use Rattle.talk_laws.proofs.GrantedPasses.{same_success}
 
 -- the numbers of requests are identifiers
 abbrev pub NumbersAreIds : Type 0

@@ -1,11 +1,11 @@
 -- What is heard on a link of subscriptions that are told their ends.
-use Rattle.std.proofs.Common.{◌≡◌, ◌≢◌, ◌⊎◌, ℕ, zero, suc, Bool, true, false, List, [], ◌∷◌, ◌++◌, map, Contains, Option, Some, None, refl, sym, ap, subst, ◌∙◌, arith, inl, inr, if◌then◌else◌, append-nil, append_assoc}
-use Rattle.std.proofs.lemmas.Bool.{cases_eq, cases_Bool}
+use Rattle.std.proofs.Common.{◌≡◌, ◌≢◌, ◌⊎◌, ℕ, zero, suc, Bool, true, false, List, [], ◌∷◌, ◌++◌, map, Contains, Some, None, refl, sym, ap, subst, ◌∙◌, arith, inl, inr, append-nil, append_assoc}
+use Rattle.std.proofs.lemmas.Bool.{cases_eq}
 use mathlib.Core.Bool.{true≢false}
 use mathlib.Core.Logic.{⊎_elim}
 use Rattle.m3_terms.specs.InsertedLaws.{cons_cases, head_in, tail_in, was_there}
 use Rattle.sparql_algebra.proofs.Gathered.{none_in}
-use Rattle.link_table.specs.Links.{Link, is_open, link_at, changed, sent, state_of, state_or_never, pending_of, pending_or_none}
+use Rattle.link_table.specs.Links.{Link, is_open, link_at, state_of, state_or_never, pending_of, pending_or_none}
 use Rattle.ssap_shape.specs.declared.status.Status.{Status}
 use Rattle.session_core.specs.Space.{Space}
 use Rattle.session_core.specs.Subscriptions.{Subscription, indication_bytes, ended_by}

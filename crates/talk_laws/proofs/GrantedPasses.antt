@@ -1,17 +1,14 @@
 -- What is known of a request that is granted.
-use Rattle.std.proofs.Common.{◌≡◌, ◌≤◌, ℕ, nat_lt, nat_le, Bool, true, false, ◌||◌, not, Option, Some, None, Result, Ok, Err, refl, sym, ap, subst, ◌∙◌, List, length, if◌then◌else◌}
+use Rattle.std.proofs.Common.{◌≡◌, Bool, true, false, ◌||◌, not, Option, Some, None, Result, Ok, Err, refl, sym, ap, ◌∙◌}
 use Rattle.std.specs.Option.{option_or, unwrap_or}
-use Rattle.std.proofs.lemmas.Bool.{ltb-false}
 use Rattle.std.proofs.lemmas.Option.{same_Some}
 use mathlib.Core.Bool.{true≢false}
 use Rattle.m3_terms.specs.OrderLaws.{text_exact}
 use Rattle.sparql_algebra.specs.declared.algebra.Query.{Query as Said}
 use Rattle.sparql_text.specs.declared.fault.ReadFault.{ReadFault}
 use Rattle.sparql_text.specs.declared.fault.ReadFault.TheVariants as fault
-use Rattle.ssap_items.specs.declared.heads.Heads.{Heads}
 use Rattle.ssap_shape.specs.declared.status.Status.{Status}
 use Rattle.ssap_shape.specs.declared.status.Status.TheVariants.{Success, AccessDenied, OutOfResources, NotImplemented, Request as BadRequest, Incomplete, Syntax}
-use Rattle.ssap_shape.specs.declared.request.Ask.{Ask}
 use Rattle.ssap_shape.specs.declared.request.Request.{Request}
 use Rattle.session_core.specs.Space.{Space}
 use Rattle.session_core.specs.Requests.{is_success, refuse, status_of_fault, reading_refusal, text_refusal, is_for, is_stranger, is_unfit, is_over, verdict}

@@ -1,12 +1,9 @@
 -- What is heard of a subscription on the link of a talk is plain, what is printed of it is true, and the talk fits again.
-use Rattle.std.proofs.Common.{◌≡◌, ◌≢◌, ◌⊎◌, ◌≤◌, ◌<◌, ◌^◌, ℕ, zero, suc, ◌+◌, ◌==◌, nat_lt, Bool, true, false, List, [], ◌∷◌, ◌++◌, length, map, Contains, Option, Some, None, Result, Ok, Err, refl, sym, ap, subst, ◌∙◌, inl, inr, arith, if◌then◌else◌, append-nil}
+use Rattle.std.proofs.Common.{◌≡◌, ◌≢◌, ◌⊎◌, ◌≤◌, ℕ, zero, suc, ◌+◌, nat_lt, false, List, [], ◌∷◌, ◌++◌, length, Contains, Some, None, Result, Ok, Err, refl, sym, ap, subst, ◌∙◌, inl, inr, arith, if◌then◌else◌, append-nil}
 use Rattle.std.specs.List.{AllByRecursion}
-use Rattle.std.specs.Fmt.{decimal}
 use Rattle.std.proofs.lemmas.Bool.{eq-eqb, ltb-false}
 use Rattle.std.proofs.lemmas.Option.{same_Some}
-use mathlib.Core.Logic.{⊎_elim}
 use Rattle.m3_terms.specs.declared.triple.Triple.{Triple}
-use Rattle.answer_bodies.specs.declared.answer.Answer.{Answer}
 use Rattle.answer_bodies.specs.declared.answer.Difference.{Difference}
 use Rattle.answer_bodies.specs.Differences.{MayFollow, folded}
 use Rattle.answer_bodies.proofs.DifferenceLaws.{differences_folded}
@@ -14,7 +11,7 @@ use Rattle.sparql_algebra.specs.Listed.{rows_of}
 use Rattle.sparql_algebra.specs.declared.algebra.Query.{Query as Said}
 use Rattle.sparql_text.specs.declared.fault.ReadFault.{ReadFault}
 use Rattle.sparql_read.specs.Reading.{reading_of}
-use Rattle.link_table.specs.Links.{Link, is_open, link_at, state_or_never, pending_of, pending_or_none}
+use Rattle.link_table.specs.Links.{Link, is_open, state_or_never, pending_of, pending_or_none}
 use Rattle.ssap_items.specs.declared.heads.Transaction as transaction
 use Rattle.ssap_shape.specs.Sound.{AreSoundHeads}
 use Rattle.ssap_shape.specs.declared.reply.Indication.{Indication}
@@ -27,20 +24,19 @@ use Rattle.session_core.specs.Following.{Change, difference_over}
 use Rattle.ssap_shape.specs.declared.reply.Incoming.{Incoming}
 use Rattle.ssap_shape.specs.declared.reply.Incoming.TheVariants.{Indication as Indicated}
 use Rattle.kp_client.specs.Mirroring.{Mirroring, mirrored, refusal}
-use Rattle.kp_client.specs.declared.fault.MirrorFault.{MirrorFault}
 use Rattle.kp_talk.specs.declared.errand.Errand.{Errand}
 use Rattle.kp_talk.specs.declared.finish.Finish.{Finish}
 use Rattle.kp_talk.specs.declared.finish.Finish.TheVariants.{Ended as End}
-use Rattle.kp_talk.specs.Talk.{Line, Answered}
-use Rattle.talk_laws.specs.Truth.{IsTrue, IsTrueLine, IsUnbroken}
-use Rattle.talk_laws.proofs.Stages.{Point, Joins, Asks, Follows, Unsubscribes, LeavesAsked, LeavesWatched, Stage, At, Closed, Move, written, point_of, following, applied, by_indication, indicated, move, to, through, lines_on, over_stays}
-use Rattle.talk_laws.proofs.Plain.{IsSaid, IsPlain, AllPlain, IsSmall, spelled}
+use Rattle.kp_talk.specs.Talk.{Line}
+use Rattle.talk_laws.specs.Truth.{IsTrue, IsTrueLine}
+use Rattle.talk_laws.proofs.Stages.{Point, Joins, Asks, Follows, Unsubscribes, LeavesAsked, LeavesWatched, Stage, At, Closed, Move, point_of, following, applied, indicated, to, through, lines_on, over_stays}
+use Rattle.talk_laws.proofs.Plain.{IsSaid, IsPlain, AllPlain, IsSmall}
 use Rattle.talk_laws.proofs.LinksTakeOrClose.{IsShut}
-use Rattle.talk_laws.proofs.QuietSteps.{Vacant, Housed, Quiet}
+use Rattle.talk_laws.proofs.QuietSteps.{Housed}
 use Rattle.talk_laws.proofs.TurnsAreHeard.{Heard, Nothing, News, Ending, Lost, told_more, change_of}
 use Rattle.talk_laws.proofs.EndsAreHeard.{repeated}
 use Rattle.talk_laws.proofs.MirrorsApply.{not_refused}
-use Rattle.talk_laws.proofs.Fits.{IsOurs, Holds, Mirrors, FitsMirror, FitsAt, Fits, Suits, Given, Goes}
+use Rattle.talk_laws.proofs.Fits.{IsOurs, Mirrors, Fits, Suits, Given, Goes}
 use Rattle.talk_laws.proofs.TalksSuit.{suits_through}
 use Rattle.talk_laws.proofs.CallsThatClose.{fits_shut, fits_same}
 

@@ -1,5 +1,5 @@
 -- What is delivered on the link of a talk: the talk fits again.
-use Rattle.std.proofs.Common.{◌≡◌, ◌≢◌, ◌⊎◌, ℕ, zero, suc, ◌+◌, Bool, true, false, ◌&&◌, List, [], ◌∷◌, ◌++◌, length, Option, Some, None, refl, sym, ap, subst, ◌∙◌, inl, inr, arith, if◌then◌else◌}
+use Rattle.std.proofs.Common.{◌≡◌, ◌⊎◌, ℕ, zero, suc, ◌+◌, Bool, true, false, ◌&&◌, List, [], ◌∷◌, ◌++◌, Option, Some, None, refl, sym, ap, subst, ◌∙◌, inl, inr, arith, if◌then◌else◌}
 use mathlib.Core.Bool.{true≢false}
 use Rattle.m3_terms.specs.declared.triple.Triple.{Triple}
 use Rattle.link_table.specs.Links.{Link, is_open, state_of}
@@ -22,7 +22,7 @@ use Rattle.kp_talk.specs.declared.errand.Task.{Task}
 use Rattle.kp_talk.specs.declared.errand.Task.TheVariants.{Insert, Query, Watch}
 use Rattle.kp_talk.specs.declared.errand.Errand.{Errand}
 use Rattle.talk_laws.specs.Truth.{IsErrand, IsTrue, asks_text}
-use Rattle.talk_laws.proofs.Stages.{Point, Joins, Asks, Follows, Unsubscribes, LeavesAsked, LeavesWatched, Stage, At, Closed, written, point_of, join, second_of, second, unsubscribe, leave}
+use Rattle.talk_laws.proofs.Stages.{Joins, Asks, Follows, Unsubscribes, LeavesAsked, LeavesWatched, Stage, At, Closed, point_of, join, second_of, second, unsubscribe, leave}
 use Rattle.talk_laws.proofs.Plain.{AllPlain}
 use Rattle.talk_laws.proofs.Fits.{Holds, Fits, Suits, IsDue, IsThird, IsFourth, Given, Goes}
 use Rattle.talk_laws.proofs.HistoriesGo.{run_one}

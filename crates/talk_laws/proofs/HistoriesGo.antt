@@ -1,5 +1,5 @@
 -- Where each call goes, the whole history does.
-use Rattle.std.proofs.Common.{◌≡◌, ℕ, zero, suc, ◌+◌, List, [], ◌∷◌, ◌++◌, length, map, Option, Some, None, refl, sym, ap, subst, ◌∙◌, arith, if◌then◌else◌, Bool, true, false, ◌==◌, append-nil, append_assoc}
+use Rattle.std.proofs.Common.{◌≡◌, ℕ, suc, ◌+◌, List, [], ◌∷◌, ◌++◌, length, Option, None, refl, sym, ap, subst, ◌∙◌, arith, if◌then◌else◌, Bool, true, false, ◌==◌, append_assoc}
 use Rattle.std.specs.List.{AllByRecursion}
 use Rattle.std.proofs.lemmas.List.{map-append}
 use Rattle.ssap_shape.specs.declared.request.Request.{Request as Asked}
@@ -15,7 +15,7 @@ use Rattle.kp_talk.specs.declared.errand.Errand.{Errand}
 use Rattle.talk_laws.specs.Truth.{delivered_on, IsTrueLine}
 use Rattle.talk_laws.proofs.Stages.{Stage, point_of, through, lines_on, through_more, lines_more}
 use Rattle.talk_laws.proofs.Plain.{IsPlain, spelled}
-use Rattle.talk_laws.proofs.Fits.{Holds, Fits, Suits, IsDue, AreDue, Given, Goes, CallGoes}
+use Rattle.talk_laws.proofs.Fits.{Holds, Fits, Suits, AreDue, Given, Goes, CallGoes}
 
 -- what holds of all of two lists holds of all of both
 pub all_both : {A : Type 0} (P : A → Type 0) (xs ys : List A) → AllByRecursion P xs → AllByRecursion P ys → AllByRecursion P (xs ++ ys)

@@ -1,8 +1,6 @@
 -- An open link that is sent a message takes it, or closes.
-use Rattle.std.proofs.Common.{◌≡◌, ◌≢◌, ◌⊎◌, ℕ, Bool, true, false, ◌&&◌, List, [], ◌∷◌, ◌++◌, Option, Some, None, option_map, refl, sym, ap, subst, ◌∙◌, inl, inr, if◌then◌else◌}
-use Rattle.std.proofs.lemmas.Bool.{cases_Bool}
+use Rattle.std.proofs.Common.{◌≡◌, ◌≢◌, ℕ, Bool, true, false, ◌&&◌, List, [], ◌∷◌, ◌++◌, Option, Some, None, option_map, refl, sym, ap, ◌∙◌, if◌then◌else◌}
 use mathlib.Core.Bool.{true≢false}
-use mathlib.Core.Logic.{⊎_elim}
 use Rattle.link_table.specs.Links.{Link, is_open, fits, sent, closed_link, link_at, changed, state_of, state_or_never, pending_of, pending_or_none}
 use Rattle.link_table.specs.declared.state.LinkState.TheVariants.{Overrun}
 use Rattle.link_table.proofs.OtherLinksStay.{link_at-changed}

@@ -1,22 +1,20 @@
 -- A mirror refuses nothing of the difference of two tables, where it has the earlier.
-use Rattle.std.proofs.Common.{◌≡◌, ℕ, ◌+◌, ◌==◌, Bool, true, false, not, cond, List, [], ◌∷◌, filter, Contains, Option, Some, None, refl, sym, ap, subst, ◌∙◌, if◌then◌else◌}
+use Rattle.std.proofs.Common.{◌≡◌, ℕ, ◌+◌, ◌==◌, Bool, true, false, not, cond, List, [], ◌∷◌, filter, Contains, Option, Some, None, refl, sym, ap, ◌∙◌, if◌then◌else◌}
 use Rattle.std.specs.List.{find}
 use Rattle.std.proofs.lemmas.Bool.{eq-eqb}
 use Rattle.std.proofs.lemmas.Cmp.{eq_by_cmp_equiv}
 use Rattle.std.proofs.lemmas.Map.Views.{list_any-from_Contains}
 use mathlib.Core.Bool.{true≢false}
-use Rattle.m3_terms.specs.Order.{text_eq, row_cmp}
+use Rattle.m3_terms.specs.Order.{row_cmp}
 use Rattle.m3_terms.specs.OrderLaws.{text_eq_equiv, row_cmp_total}
 use Rattle.m3_terms.specs.InsertedLaws.{head_in, tail_in, was_there}
 use Rattle.m3_terms.specs.declared.term.Term.{Term}
 use Rattle.answer_bodies.specs.Lists.{is_among, without}
 use Rattle.answer_bodies.specs.Differences.{difference_of}
-use Rattle.answer_bodies.specs.declared.answer.Answer.{Answer}
 use Rattle.answer_bodies.specs.declared.answer.Answer.TheVariants.{Table}
 use Rattle.answer_bodies.specs.declared.answer.Difference.{Difference}
-use Rattle.kp_client.specs.Mirroring.{Mirroring, form_of, are_columns, have_one_form, first_missing, first_present, conflict, conflict_or, refusal}
+use Rattle.kp_client.specs.Mirroring.{are_columns, first_missing, first_present, conflict, conflict_or, refusal}
 use Rattle.kp_client.specs.declared.fault.MirrorFault.{MirrorFault}
-use Rattle.kp_client.specs.declared.fault.MirrorFault.TheVariants.{OtherSubscription, Gap, OtherForm}
 
 columns_same : (columns : List (List ℕ)) → are_columns columns columns ≡ true
 columns_same [] = refl

@@ -1,5 +1,5 @@
 -- Messages of a broker that are read back as what they tell.
-use Rattle.std.specs.Prelude.{◌≡◌, ℕ, ◌≤◌, ◌<◌, ◌^◌, List, [], ◌∷◌, length, Option, Some, None}
+use Rattle.std.specs.Prelude.{◌≡◌, ℕ, ◌≤◌, ◌<◌, ◌^◌, List, [], length, Option, Some, None}
 use Rattle.ssap_items.specs.Canon.{canonical}
 use Rattle.ssap_items.specs.declared.heads.MessageType as message
 use Rattle.ssap_items.specs.declared.heads.Transaction as transaction

@@ -1,9 +1,8 @@
 -- What is printed is true where each call of a history goes.
-use Rattle.std.proofs.Common.{◌≡◌, ◌⊎◌, ℕ, zero, suc, ◌+◌, ◌≤◌, ◌<◌, ◌^◌, Bool, true, false, List, [], ◌∷◌, ◌++◌, length, map, Option, Some, None, refl, sym, ap, subst, ◌∙◌, inl, inr, arith}
-use Rattle.std.specs.Prelude.{flat_map, Contains, ⊤}
+use Rattle.std.proofs.Common.{◌≡◌, ◌⊎◌, ℕ, ◌≤◌, ◌<◌, ◌^◌, List, [], ◌∷◌, ◌++◌, length, map, refl, sym, ap, subst, ◌∙◌, inl, inr, arith, append_assoc, append-nil}
+use Rattle.std.specs.Prelude.{flat_map}
 use Rattle.std.specs.List.{AllByRecursion, AllZip}
 use mathlib.Core.Logic.{⊎_elim}
-use Rattle.m3_terms.specs.Text.{IsText}
 use Rattle.m3_terms.proofs.Lists.{heads_same, tails_same}
 use Rattle.sparql_algebra.proofs.Gathered.{none_in}
 use Rattle.ssap_items.specs.Canon.{canonical}
@@ -12,7 +11,7 @@ use Rattle.ssap_grammar.specs.Sayable.{IsSayable}
 use Rattle.ssap_shape.specs.declared.request.Request.{Request as Asked}
 use Rattle.ssap_shape.specs.declared.request.Arrived.{Arrived}
 use Rattle.ssap_shape.specs.declared.request.Arrived.TheVariants.{Request}
-use Rattle.session_core.specs.Space.{Space, empty_space}
+use Rattle.session_core.specs.Space.{Space}
 use Rattle.session_core.specs.Runs.{run, sent}
 use Rattle.session_core.specs.declared.call.Call.{Call}
 use Rattle.ssap_shape.specs.declared.reply.Incoming.{Incoming}
@@ -24,12 +23,12 @@ use Rattle.kp_talk.specs.Talk.{Talk, Line, talk_over}
 use Rattle.kp_talk.specs.declared.finish.Finish.{Finish}
 use Rattle.kp_talk.specs.declared.finish.Finish.TheVariants.{Done, Refused, Ended as End, BrokenSubscription, BrokenGap, BrokenForm, BrokenConflict, BrokenMessage, BrokenStream, Over}
 use Rattle.kp_talk.specs.declared.finish.Break.TheVariants.{Syntax, Long, Cut}
-use Rattle.kp_talk.specs.Reading.{Tells, IsTalk, IsClean}
+use Rattle.kp_talk.specs.Reading.{Tells, IsWholeTalk, IsEarlyTalk, IsClean}
 use Rattle.talk_laws.specs.Truth.{delivered_on, asks_text, IsErrand, AreOf, AreSentOn, IsTrueLine, IsUnbroken, AreHandled, PrintedAnswersAreTrue}
 use Rattle.talk_laws.proofs.Stages.{Point, Joins, Asks, Follows, Unsubscribes, LeavesAsked, LeavesWatched, Stage, At, Closed, written, point_of, finish_at, join, second, unsubscribe, leave, through, lines_on, through_more, lines_more, over_stays}
 use Rattle.talk_laws.proofs.TalksAreWalks.{IsQuery, talk_walks}
 use Rattle.talk_laws.proofs.Plain.{IsPlain, envelope_of, spelled}
-use Rattle.talk_laws.proofs.Fits.{Suits, IsDue, IsThird, IsFourth, AreDue, Fits, Given, Goes, CallGoes}
+use Rattle.talk_laws.proofs.Fits.{Suits, IsThird, IsFourth, AreDue, Fits, Given, Goes, CallGoes}
 use Rattle.talk_laws.proofs.TalksSuit.{suits_through}
 use Rattle.talk_laws.proofs.HistoriesGo.{all_front, history_goes}
 
@@ -175,11 +174,16 @@ fits_closed : (given : Given) (count : ℕ) (stage : Stage) (sent : List (List �
     → through given.errand stage g.told ≡ Closed point finish → IsUnbroken finish ⊎ (length (written given.errand point) < count)
 fits_closed given count stage sent new g point finish e = subst (Fits given.errand new.graph new.links given.link count g.lives) e g.fits
 
--- what is printed is true, where bytes tell what was sent, and each call goes
-pub printed_true : ToldInOrder
-    → ((given : Given) → IsErrand given.errand given.text → AreHandled given.history → length given.history < 2 ^ 64 → CallGoes given)
-    → PrintedAnswersAreTrue
-printed_true told_in_order calls name history link errand text bytes talk few is handled t of from =
+-- each call of a history goes, where an errand asks a query and what is delivered is what messages of texts come to
+abbrev CallsGo : Type 0
+CallsGo = (given : Given) → IsErrand given.errand given.text → AreHandled given.history → length given.history < 2 ^ 64 → CallGoes given
+
+-- what the talk over all that bytes tell prints is true, where bytes tell what was sent, and each call goes
+whole_true : ToldInOrder → CallsGo → (name : List ℕ) (history : List Call) (link : ℕ) (errand : Errand) (text bytes : List ℕ) (talk : Talk)
+    → length history < 2 ^ 64 → IsErrand errand text → AreHandled history → IsWholeTalk errand bytes talk → AreOf (delivered_on history link) talk.requests
+    → AreSentOn name history link bytes
+    → AllByRecursion (IsTrueLine name history link text talk.requests) talk.lines × IsUnbroken talk.finish
+whole_true told_in_order calls name history link errand text bytes talk few is handled t of from =
     (subst (AllByRecursion TrueLine) (sym lines) (all_front TrueLine (lines_on errand (At Joins) t.told) _ all_lines), unbroken)
   where
     given : Given
@@ -234,3 +238,33 @@ printed_true told_in_order calls name history link errand text bytes talk few is
     unbroken = subst IsUnbroken (sym (ap (λ (talk : Talk). talk.finish) t.said ∙ walks.2))
         (unbroken_by errand t.last stage rest.0 (length (delivered_on history link)) told.4 most
         (λ point finish e. fits_closed given (length (delivered_on history link)) (At Joins) (sent name history link) (run name history) goes point finish (last ∙ e)))
+
+-- a talk that the messages of a prefix finish is the talk over all that the prefix tells
+early_whole : (errand : Errand) (bytes : List ℕ) (talk : Talk) (e : IsEarlyTalk errand bytes talk) → IsWholeTalk errand e.front talk
+early_whole errand bytes talk e = record {
+  told = e.told;
+  last = Over;
+  tells = record {
+    front = e.front;
+    rest = [];
+    split = sym (append-nil e.front);
+    messages = e.messages;
+    through = e.through;
+    each = e.each;
+    ends = (e.messages, e.stream);
+  };
+  said = sym (e.settled [] Over) ∙ ap (talk_over Over errand) (append-nil e.told);
+}
+
+-- a prefix of bytes that begin what was sent begins it too
+front_sent : (name : List ℕ) (history : List Call) (link : ℕ) (bytes front rest : List ℕ) → bytes ≡ front ++ rest → AreSentOn name history link bytes
+    → AreSentOn name history link front
+front_sent name history link bytes front rest split from = (rest ++ from.0, from.1 ∙ (ap (λ b. b ++ from.0) split ∙ append_assoc front rest from.0))
+
+-- what is printed is true, where bytes tell what was sent, and each call goes
+pub printed_true : ToldInOrder → CallsGo → PrintedAnswersAreTrue
+printed_true told_in_order calls name history link errand text bytes talk few is handled (inl e) of from =
+    whole_true told_in_order calls name history link errand text e.front talk few is handled (early_whole errand bytes talk e) of
+    (front_sent name history link bytes e.front e.rest e.split from)
+printed_true told_in_order calls name history link errand text bytes talk few is handled (inr w) of from =
+    whole_true told_in_order calls name history link errand text bytes talk few is handled w of from

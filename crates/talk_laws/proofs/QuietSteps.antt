@@ -1,19 +1,17 @@
 -- Steps of a space that leave a link and the subscription on it as they were.
-use Rattle.std.proofs.Common.{◌≡◌, ◌≢◌, ℕ, ◌+◌, ◌==◌, nat_lt, Bool, true, false, ◌&&◌, not, List, [], ◌∷◌, ◌++◌, length, map, filter, Contains, Option, Some, None, refl, sym, ap, subst, ◌∙◌, if◌then◌else◌}
-use Rattle.std.proofs.lemmas.Bool.{cases_eq, eq-eqb, ne_eqb}
-use mathlib.Core.Logic.{⊎_elim}
+use Rattle.std.proofs.Common.{◌≡◌, ◌≢◌, ℕ, ◌+◌, nat_lt, Bool, true, false, not, List, [], ◌∷◌, length, map, filter, Contains, Option, Some, None, refl, sym, ap, subst, ◌∙◌, if◌then◌else◌}
+use Rattle.std.proofs.lemmas.Bool.{ne_eqb}
 use Rattle.m3_terms.specs.declared.triple.Triple.{Triple}
 use Rattle.m3_terms.specs.InsertedLaws.{head_in, tail_in, was_there, is_kept}
 use Rattle.query_eval.proofs.Counts.{mapped_from, mapped_to}
 use Rattle.answer_bodies.specs.Differences.{is_empty_difference}
 use Rattle.link_table.specs.Links.{Link, is_open, link_at, changed, sent, state_of, state_or_never}
 use Rattle.link_table.proofs.OtherLinksStay.{link_at-others}
-use Rattle.ssap_shape.specs.declared.status.Status.{Status}
 use Rattle.ssap_shape.specs.declared.status.Status.TheVariants.{OutOfResources}
 use Rattle.session_core.specs.Space.{Space}
 use Rattle.session_core.specs.Subscriptions.{Subscription, has_number, subscription_at, width_over, indication_bytes, ended_by}
 use Rattle.session_core.specs.Queues.{queue, with_links}
-use Rattle.session_core.specs.Following.{Change, takes, told_once_more, with_next, without_number, end_over, difference_over, change_bytes, tell_end, tell_ends, tell_living, tell_changes}
+use Rattle.session_core.specs.Following.{takes, told_once_more, with_next, without_number, end_over, difference_over, change_bytes, tell_living, tell_changes}
 use Rattle.session_core.proofs.NumbersDiffer.{AreOthers, HaveOwn, own_alone, found_there}
 use Rattle.session_core.proofs.WhatFollowsHolds.{living_holds}
 use Rattle.session_core.proofs.ChangesLeadOn.{turn_cases, own_holds}

@@ -1,5 +1,5 @@
 -- What a broker sends is read back as what it tells, and as nothing else.
-use Rattle.std.proofs.Common.{◌≡◌, ◌≢◌, ◌<◌, ◌^◌, ℕ, ◌==◌, Bool, true, false, ◌&&◌, List, [], ◌∷◌, ◌++◌, length, filter, Option, Some, None, refl, sym, ap, subst, ◌∙◌, if◌then◌else◌, get_or}
+use Rattle.std.proofs.Common.{◌≡◌, ℕ, ◌==◌, Bool, true, false, ◌&&◌, List, [], ◌∷◌, length, Option, Some, None, refl, sym, ap, subst, ◌∙◌, if◌then◌else◌, get_or}
 use Rattle.std.specs.Fmt.{decimal}
 use Rattle.std.proofs.lemmas.Fmt.{decimal_injective}
 use Rattle.m3_terms.proofs.Lists.{heads_same}
@@ -19,15 +19,12 @@ use Rattle.ssap_shape.specs.declared.name.Name.{Name}
 use Rattle.ssap_shape.specs.declared.name.Name as name
 use Rattle.ssap_shape.specs.declared.status.Status.{Status}
 use Rattle.ssap_shape.specs.declared.status.Status.TheVariants.{Success, AccessDenied, OutOfResources, NotImplemented, Request, Incomplete, Syntax}
-use Rattle.ssap_shape.specs.declared.reply.Confirm.{Confirm}
-use Rattle.ssap_shape.specs.declared.reply.Indication.{Indication}
 use Rattle.ssap_shape.specs.declared.reply.Indication.TheVariants.{Changes, Ended}
 use Rattle.ssap_shape.specs.Table.{word}
 use Rattle.ssap_shape.specs.Replies.{status_word, status_param, number_param, answer_param, heads_with, confirm_of, indication_of}
-use Rattle.ssap_shape.specs.Told.{IsStatus, IsNumber, all_named, StandsOnce, MayStand, StandsWhere, is_success, has_number, has_results, IsConfirm, IsIndication, IsTold}
-use Rattle.ssap_shape.specs.declared.reply.Incoming.{Incoming}
+use Rattle.ssap_shape.specs.Told.{IsStatus, IsNumber, all_named, StandsOnce, MayStand, StandsWhere, is_success, has_number, has_results, IsConfirm}
 use Rattle.ssap_shape.specs.declared.reply.Incoming.TheVariants.{Confirm as Confirmed, Indication as Indicated, Other}
-use Rattle.talk_laws.proofs.Plain.{IsSmall, IsSaid, confirm_with, envelope_of}
+use Rattle.talk_laws.proofs.Plain.{IsSmall, IsSaid, confirm_with}
 use Rattle.talk_laws.proofs.AllIsPlain.{IsAlone, AreReadBack}
 
 -- the status of a word

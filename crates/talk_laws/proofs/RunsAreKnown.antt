@@ -1,7 +1,6 @@
 -- What is known of the spaces before and after each call of a history.
 use Rattle.std.proofs.Common.{◌≡◌, ◌≤◌, ◌<◌, ◌^◌, ℕ, ◌+◌, Bool, true, false, not, cond, List, [], ◌∷◌, ◌++◌, length, filter, Contains, Option, Some, None, refl, sym, ap, subst, ◌∙◌, arith, length-append}
 use Rattle.std.specs.List.{AllByRecursion}
-use Rattle.std.specs.Fmt.{decimal}
 use Rattle.std.specs.List.Sorted.{IsStrictlySortedBy}
 use Rattle.std.proofs.lemmas.List.Elements.{Contains-append_left}
 use Rattle.std.proofs.lemmas.List.Kept.{IsStrictlySortedBy-filter}
@@ -15,12 +14,10 @@ use Rattle.answer_bodies.specs.Laws.{IsSound, IsSoundTriple, IsSoundRow}
 use Rattle.answer_bodies.specs.Lists.{is_among}
 use Rattle.ssap_shape.specs.Sound.{IsSoundId, AreSoundHeads}
 use Rattle.ssap_shape.specs.declared.request.Wish.TheVariants.{Sparql}
-use Rattle.ssap_shape.specs.declared.request.Arrived.{Arrived}
 use Rattle.session_core.specs.Space.{Space, empty_space}
 use Rattle.session_core.specs.Subscriptions.{Subscription, Wanted, wanted_by, answer_over, heads_for, subscription_at}
 use Rattle.session_core.specs.Runs.{run}
 use Rattle.session_core.specs.Steps.{step}
-use Rattle.session_core.specs.Watching.{changes}
 use Rattle.session_core.specs.declared.call.Call.{Call}
 use Rattle.session_core.specs.declared.call.Call.TheVariants as call
 use Rattle.session_core.proofs.Growing.{name_stays, triples_in_order}

@@ -1,5 +1,5 @@
 -- A talk on a query as a walk from stage to stage, one for each message that is told.
-use Rattle.std.proofs.Common.{◌≡◌, ℕ, zero, suc, ◌+◌, ◌==◌, Bool, true, false, List, [], ◌∷◌, ◌++◌, Option, Some, None, if◌then◌else◌, refl, sym, ap, ◌∙◌, append-nil, append_assoc}
+use Rattle.std.proofs.Common.{◌≡◌, ℕ, zero, suc, ◌+◌, ◌==◌, Bool, true, false, List, [], ◌∷◌, ◌++◌, Option, Some, None, if◌then◌else◌, refl, sym, ap, ◌∙◌, append_assoc}
 use Rattle.std.specs.Fmt.{decimal}
 use Rattle.ssap_items.specs.declared.heads.Transaction as transaction
 use Rattle.answer_bodies.specs.declared.answer.Answer.{Answer}
@@ -21,7 +21,7 @@ use Rattle.kp_talk.specs.declared.errand.Task.TheVariants.{Insert, Query, Watch}
 use Rattle.kp_talk.specs.declared.errand.Errand.{Errand}
 use Rattle.kp_talk.specs.declared.finish.Finish.{Finish}
 use Rattle.kp_talk.specs.declared.finish.Finish.TheVariants.{Done, Refused, Ended as End, BrokenMessage}
-use Rattle.kp_talk.specs.Talk.{Line, Answered, Talk, finished, request_at, broken}
+use Rattle.kp_talk.specs.Talk.{Line, Answered, request_at, broken}
 
 -- what a talk awaits
 pub data Point : Type 0 where

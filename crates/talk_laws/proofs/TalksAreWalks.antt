@@ -5,7 +5,6 @@ use Rattle.answer_bodies.specs.declared.answer.Answer.{Answer}
 use Rattle.answer_bodies.specs.declared.answer.Difference.{Difference}
 use Rattle.ssap_shape.specs.declared.request.Request.{Request}
 use Rattle.ssap_shape.specs.declared.reply.Confirm.{Confirm}
-use Rattle.ssap_shape.specs.declared.reply.Indication.{Indication}
 use Rattle.ssap_shape.specs.declared.reply.Indication.TheVariants.{Changes, Ended}
 use Rattle.ssap_shape.specs.Told.{is_success}
 use Rattle.ssap_shape.specs.declared.reply.Incoming.{Incoming}
@@ -18,8 +17,8 @@ use Rattle.kp_talk.specs.declared.errand.Task.TheVariants.{Insert, Query, Watch}
 use Rattle.kp_talk.specs.declared.errand.Errand.{Errand}
 use Rattle.kp_talk.specs.declared.finish.Finish.{Finish}
 use Rattle.kp_talk.specs.declared.finish.Finish.TheVariants.{Done, Refused, Ended as End, BrokenMessage}
-use Rattle.kp_talk.specs.Talk.{Line, Answered, Talk, finished, writes, prints, awaits, confirmed, asks, leaves, follows, applies, answered, subscribed, performs, talk_over, broken}
-use Rattle.talk_laws.proofs.Stages.{Point, Joins, Asks, Follows, Unsubscribes, LeavesAsked, LeavesWatched, Stage, At, Closed, Move, join, second_of, second, unsubscribe, leave, written, point_of, finish_at, following, performed, watched, queried, succeeds, awaited, judged, by_confirm, applied, by_indication, indicated, confirmed_at, move, to, through, lines_on, over_stays}
+use Rattle.kp_talk.specs.Talk.{Line, Answered, Talk, finished, writes, prints, awaits, confirmed, leaves, follows, applies, answered, subscribed, performs, talk_over, broken}
+use Rattle.talk_laws.proofs.Stages.{Point, Joins, Asks, Follows, Unsubscribes, LeavesAsked, LeavesWatched, Stage, At, Closed, Move, join, second_of, second, unsubscribe, leave, written, point_of, finish_at, following, performed, watched, queried, succeeds, awaited, judged, by_confirm, applied, move, to, through, lines_on, over_stays}
 
 -- a task asks a query
 abbrev pub IsQuery : Task → Type 0

@@ -1,6 +1,5 @@
 -- A talk comes to the points of its task alone.
-use Rattle.std.proofs.Common.{◌≡◌, ℕ, zero, suc, ◌==◌, Bool, true, false, List, [], ◌∷◌, Option, Some, None, if◌then◌else◌}
-use Rattle.std.specs.Prelude.{⊤}
+use Rattle.std.proofs.Common.{ℕ, zero, suc, ◌==◌, Bool, true, false, List, [], ◌∷◌, Option, Some, None, if◌then◌else◌}
 use Rattle.answer_bodies.specs.declared.answer.Answer.{Answer}
 use Rattle.answer_bodies.specs.declared.answer.Difference.{Difference}
 use Rattle.ssap_shape.specs.declared.reply.Confirm.{Confirm}
@@ -10,13 +9,13 @@ use Rattle.ssap_shape.specs.Told.{is_success}
 use Rattle.ssap_shape.specs.declared.reply.Incoming.{Incoming}
 use Rattle.ssap_shape.specs.declared.reply.Incoming.TheVariants.{Confirm as Confirmed, Indication as Indicated, Other}
 use Rattle.kp_client.specs.Asked.{is_awaited}
-use Rattle.kp_client.specs.Mirroring.{Mirroring, mirror_of, mirrored, refusal}
+use Rattle.kp_client.specs.Mirroring.{Mirroring, mirrored, refusal}
 use Rattle.kp_client.specs.declared.fault.MirrorFault.{MirrorFault}
 use Rattle.kp_talk.specs.declared.errand.Task.{Task}
 use Rattle.kp_talk.specs.declared.errand.Task.TheVariants.{Insert, Query, Watch}
 use Rattle.kp_talk.specs.declared.errand.Errand.{Errand}
-use Rattle.kp_talk.specs.declared.finish.Finish.TheVariants.{Ended as End, BrokenMessage}
-use Rattle.talk_laws.proofs.Stages.{Point, Joins, Asks, Follows, Unsubscribes, LeavesAsked, LeavesWatched, Stage, At, Closed, Move, point_of, following, performed, watched, queried, succeeds, awaited, judged, by_confirm, applied, by_indication, indicated, confirmed_at, move, to, through}
+use Rattle.kp_talk.specs.declared.finish.Finish.TheVariants.{Ended as End}
+use Rattle.talk_laws.proofs.Stages.{Point, Joins, Asks, Follows, Unsubscribes, LeavesAsked, LeavesWatched, Stage, At, Closed, point_of, following, performed, watched, queried, succeeds, awaited, judged, by_confirm, applied, by_indication, move, to, through}
 use Rattle.talk_laws.proofs.Fits.{Suits}
 
 unsubscribes_so : (task : Task) (count : ℕ) (mirror : Mirroring) (number : ℕ) → Suits task (Follows count mirror) → Suits task (Unsubscribes number)

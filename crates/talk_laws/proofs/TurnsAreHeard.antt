@@ -1,6 +1,6 @@
 -- What is heard on a link of the turns that follow from an update: nothing, a change, an end, or nothing more at all.
-use Rattle.std.proofs.Common.{◌≡◌, ◌≢◌, ℕ, ◌+◌, ◌==◌, nat_lt, Bool, true, false, ◌&&◌, not, List, [], ◌∷◌, ◌++◌, length, map, filter, Contains, Option, Some, None, refl, sym, ap, subst, ◌∙◌, arith, if◌then◌else◌}
-use Rattle.std.proofs.lemmas.Bool.{cases_eq, cases_Bool, eq-eqb}
+use Rattle.std.proofs.Common.{◌≡◌, ◌≢◌, ℕ, ◌+◌, nat_lt, Bool, true, false, ◌&&◌, not, List, [], ◌∷◌, ◌++◌, length, map, Contains, Option, Some, None, refl, sym, ap, subst, ◌∙◌, arith, if◌then◌else◌}
+use Rattle.std.proofs.lemmas.Bool.{cases_eq, eq-eqb}
 use mathlib.Core.Bool.{true≢false}
 use mathlib.Core.Logic.{⊎_elim}
 use Rattle.m3_terms.specs.declared.triple.Triple.{Triple}
@@ -9,11 +9,10 @@ use Rattle.query_eval.proofs.Counts.{mapped_from, mapped_to}
 use Rattle.sparql_algebra.proofs.Gathered.{none_in}
 use Rattle.sparql_algebra.proofs.ListMembers.{kept}
 use Rattle.answer_bodies.specs.Differences.{is_empty_difference}
-use Rattle.answer_bodies.specs.declared.answer.Difference.{Difference}
 use Rattle.link_table.specs.Links.{Link, is_open, link_at, changed, sent, state_of, state_or_never, pending_of, pending_or_none}
 use Rattle.ssap_shape.specs.declared.status.Status.TheVariants.{OutOfResources}
 use Rattle.session_core.specs.Space.{Space}
-use Rattle.session_core.specs.Subscriptions.{Subscription, Wanted, has_number, subscription_at, answer_over, width_over, indication_bytes, ended_by, changed_by}
+use Rattle.session_core.specs.Subscriptions.{Subscription, has_number, subscription_at, answer_over, width_over, indication_bytes, ended_by, changed_by}
 use Rattle.session_core.specs.Queues.{queue, with_links}
 use Rattle.session_core.specs.Following.{Change, takes, told_once_more, with_next, without_number, end_over, difference_over, change_bytes, tell_living, tell_changes, change_at, change_among}
 use Rattle.session_core.proofs.NumbersDiffer.{AreOthers, HaveOwn, DoDiffer, own_alone, found_there, none_found, number_in}

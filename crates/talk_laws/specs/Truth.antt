@@ -2,7 +2,6 @@
 use Rattle.std.specs.Prelude.{◌≡◌, ℕ, zero, suc, ◌==◌, ◌<◌, ◌^◌, if◌then◌else◌, List, [], ◌∷◌, ◌++◌, length, map, flat_map, Contains, Some, ⊤}
 use Rattle.std.specs.List.{AllByRecursion}
 use Rattle.m3_terms.specs.Text.{IsText}
-use Rattle.m3_terms.specs.declared.triple.Triple.{Triple}
 use Rattle.ssap_items.specs.declared.envelope.Envelope.{Envelope}
 use Rattle.answer_bodies.specs.declared.answer.Answer.{Answer}
 use Rattle.ssap_shape.specs.declared.request.Wish.TheVariants.{Sparql}
@@ -23,7 +22,6 @@ use Rattle.kp_talk.specs.declared.errand.Task.TheVariants.{Insert, Query, Watch}
 use Rattle.kp_talk.specs.Talk.{Talk, Line, Inserted, Answered}
 use Rattle.kp_talk.specs.declared.finish.Finish.{Finish}
 use Rattle.kp_talk.specs.declared.finish.Finish.TheVariants.{Done, Refused, Ended as Ending, BrokenSubscription, BrokenGap, BrokenForm, BrokenConflict, BrokenMessage, BrokenStream, Over}
-use Rattle.kp_talk.specs.declared.finish.Break.{Break}
 use Rattle.kp_talk.specs.declared.finish.Break.TheVariants.{Syntax, Long, Cut}
 use Rattle.talk_laws.specs.Texts.{AreTexts}
 use Rattle.kp_talk.specs.Reading.{IsTalk}

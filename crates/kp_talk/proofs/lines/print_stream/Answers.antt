@@ -1,0 +1,14 @@
+use Rattle.std.proofs.Common.{◌≡◌, ◌∙◌, ap, sym, List, ℕ, [], ◌∷◌, ◌++◌, codes, append_assoc}
+use Rattle.std.specs.Fmt.{decimal}
+use Rattle.kp_talk.proofs.lines.print_stream.Goals as goal
+
+-- a place and a word behind other words are one list, however they are put together
+spaced : (front place word : List ℕ) → front ++ (place ++ 32 ∷ (word ++ 10 ∷ [])) ≡ front ++ (place ++ 32 ∷ [] ++ word ++ 10 ∷ [])
+spaced front place word = ap (λ l. front ++ l)
+    (sym (append_assoc place (32 ∷ []) (word ++ 10 ∷ [])) ∙ sym (append_assoc (place ++ 32 ∷ []) word (10 ∷ [])))
+
+-- the line that was printed is put together from its parts
+pub returns : goal.returns
+returns g c =
+    let line = c.as_bytes.ensures.value ∙ c.in-Ok.ensures.ok ∙ spaced (codes "broken stream ") (decimal c.args.place) c.args.word.now in
+    rw (← line) c.print.ensures
