@@ -22,3 +22,5 @@ pub mod FeedLemmas
 pub mod EndLemmas
 pub mod TurnLemmas
 pub mod RunLemmas
+pub mod KpEnds
+pub mod KpPrintsTruth

@@ -20,7 +20,7 @@ use Rattle.sib_app.proofs.ReplayLemmas.{front_of_output}
 use Rattle.sib_app.proofs.FaultLemmas.{dead_stays, output_of_fault, output_of_dead}
 
 -- what is left behind the bytes that were read, of a source that tells
-left_behind : (old new : Option (List ℕ)) (read all : List ℕ) → Consumes old new read → old ≡ Some all → (more : List ℕ) × (new ≡ Some more) × (all ≡ read ++ more)
+pub left_behind : (old new : Option (List ℕ)) (read all : List ℕ) → Consumes old new read → old ≡ Some all → (more : List ℕ) × (new ≡ Some more) × (all ≡ read ++ more)
 left_behind None new read all c e = absurd (cc)
 left_behind (Some xs) None read all c e = absurd c
 left_behind (Some xs) (Some ys) read all c e = (ys, refl, same all xs e ∙ c)
@@ -29,7 +29,7 @@ left_behind (Some xs) (Some ys) read all c e = (ys, refl, same all xs e ∙ c)
     same a x e = cc
 
 -- nothing is left behind all that was read
-all_read : (old new : Option (List ℕ)) (read all : List ℕ) → Consumes old new read → IsAtEnd new → old ≡ Some all → all ≡ read
+pub all_read : (old new : Option (List ℕ)) (read all : List ℕ) → Consumes old new read → IsAtEnd new → old ≡ Some all → all ≡ read
 all_read old new read all c end e =
     let (more, is, whole) = left_behind old new read all c e in
     whole ∙ ap (λ l. read ++ l) (subst IsAtEnd is end) ∙ append-nil read

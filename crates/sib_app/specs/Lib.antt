@@ -7,3 +7,4 @@ pub mod Ending
 pub mod Doing
 pub mod Session
 pub mod Turn
+pub mod KpRun
