@@ -1,5 +1,7 @@
-//! `sib`, the broker's command: reads its words, makes the real source and sink, and ends with the status of the call.
+//! `sib`, the broker's command: reads its words, makes the real sources and sinks, and ends with the status of the call.
 #![tactic(auto)]
+
+mod kp;
 
 ghost use Rattle.std.specs.Prelude.{◌≡◌, ◌<◌};
 
@@ -8,8 +10,9 @@ use sib_app::sib_run;
 use sib_io::{GatheredSink, Sink, Source, StdSource};
 use std::alloc::Global;
 use std::env;
-use std::io::{self, ErrorKind};
+use std::io::{self, ErrorKind, Input, Print};
 use std::marker::Brand;
+use std::net::{Net, TcpListener, TcpStream};
 use std::process::ExitCode;
 use std::rt::Env;
 use std::sync::ledger::{Blank, Ledger};
@@ -21,23 +24,22 @@ const BAD_WORDS: u8 = 2;
 /// The status out of memory.
 const NO_MEMORY: u8 = 6;
 
+/// What is told where the words are no form.
+const FORMS: &str = "the words are none of these forms:
+  sib replay SPACE
+  sib kp ADDRESS insert SPACE NODE SUBJECT PREDICATE KIND OBJECT
+  sib kp ADDRESS query SPACE NODE TEXT
+  sib kp ADDRESS watch SPACE NODE TEXT N
+KIND is uri or literal; N is a number; a script comes on standard input";
+
 fn main(rt: HostRuntime) -> ExitCode {
-    let words = match words(&rt) {
-        Ok(words) => words,
-        Err(fault) => return ExitCode::from(refusal(fault.kind())),
+    let status = match words(&rt) {
+        Ok(words) => run(&rt, &words),
+        Err(fault) => refusal(fault.kind(), BAD_WORDS),
     };
-    let mut source = StdSource::new(rt.reader());
-    let Ok(mut sink) = GatheredSink::new(rt.alloc(), io::writer(&rt)) else {
-        return ExitCode::from(NO_MEMORY);
-    };
-    let status = counted::<_, _, _, Brand>(
-        rt.alloc(),
-        &rt,
-        &words,
-        &mut source,
-        &mut sink,
-        Blank::new(1),
-    );
+    if status == BAD_WORDS {
+        let _ = eprintln!(rt; "{FORMS}");
+    }
     ExitCode::from(status)
 }
 
@@ -50,13 +52,38 @@ fn words(rt: &(impl Env + AllocGlobal)) -> io::Result<Vec<String>> {
     Ok(words)
 }
 
-// The status where the words could not be read.
-fn refusal(kind: ErrorKind) -> u8 {
+// The status of a call of the system that failed: out of memory, or else this one.
+fn refusal(kind: ErrorKind, otherwise: u8) -> u8 {
     if kind == ErrorKind::OutOfMemory {
         NO_MEMORY
     } else {
-        BAD_WORDS
+        otherwise
     }
+}
+
+// Runs the client where the first word is `kp`, and else the broker.
+fn run<R>(rt: &R, words: &[String]) -> u8
+where
+    R: Net<Listener = TcpListener, Stream = TcpStream>
+        + Threads
+        + Sync
+        + AllocGlobal
+        + Input
+        + Print,
+{
+    match words.split_first() {
+        Some((first, rest)) if first.as_str() == "kp" => kp::kp(rt, rest),
+        _ => replay(rt, words),
+    }
+}
+
+// Runs the broker over standard input and output.
+fn replay<R: Threads + Sync + AllocGlobal + Input + Print>(rt: &R, words: &[String]) -> u8 {
+    let mut source = StdSource::new(rt.reader());
+    let Ok(mut sink) = GatheredSink::new(rt.alloc(), io::writer(rt)) else {
+        return NO_MEMORY;
+    };
+    counted::<_, _, _, Brand>(rt.alloc(), rt, words, &mut source, &mut sink, Blank::new(1))
 }
 
 // Runs the command with a counter of its own, which counts for nobody.

@@ -1,4 +1,4 @@
-use Rattle.sib.proofs.main.Given as goal
+use Rattle.sib.proofs.replay.Given as goal
 
 -- the counter's ledger is that of its blank
 abbrev pub ghosts-counted : goal.ghosts-counted
