@@ -1,7 +1,8 @@
 use kp_client::Client;
 use m3_terms::{Bytes, Text};
-use ssap_items::Transaction;
-use ssap_shape::Ask;
+use ssap_encode::to_bytes;
+use ssap_items::{Heads, MessageType, Transaction};
+use ssap_shape::{Ask, Request, request_envelope};
 use std::alloc::Global;
 use std::test::Fail;
 
@@ -17,5 +18,27 @@ fn joins(alloc: Global) -> Result<Bytes, Fail> {
 #[test]
 fn a_client_asks_to_join(rt: HostRuntime) -> Result<(), Fail> {
     assert_eq!(rt; joins(rt.alloc())?.as_slice(), JOIN);
+    Ok(())
+}
+
+/// The same request, made of its parts.
+fn made(alloc: Global) -> Result<Bytes, Fail> {
+    let heads = Heads {
+        message: MessageType::Request,
+        transaction: Transaction::Join,
+        transaction_id: Text::read(alloc, b"1")?,
+        node_id: Text::read(alloc, b"k")?,
+        space_id: Text::read(alloc, b"X")?,
+    };
+    let request = Request {
+        heads,
+        ask: Ask::Join,
+    };
+    Ok(to_bytes(alloc, &request_envelope(alloc, &request)?)?)
+}
+
+#[test]
+fn a_request_is_made_of_its_parts(rt: HostRuntime) -> Result<(), Fail> {
+    assert_eq!(rt; made(rt.alloc())?.as_slice(), JOIN);
     Ok(())
 }
