@@ -5,3 +5,4 @@ mod GrownTables
 mod StandingLaws
 mod MovedRows
 mod HalfDone
+mod NoDifference

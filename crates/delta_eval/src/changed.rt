@@ -1,5 +1,5 @@
 //! Changes of lists of distinct rows.
-ghost use Rattle.std.specs.Prelude.{IfOk};
+ghost use Rattle.std.specs.Prelude.{◌≡◌, [], IfOk};
 ghost use Rattle.sparql_algebra.specs.RowSets.{AreExactly};
 ghost use Rattle.delta_eval.specs.Changed.{IsOfOnly, IsDifference};
 
@@ -15,14 +15,28 @@ pub(crate) struct Changed {
 }
 
 impl Changed {
-    // The difference of two lists.
+    // The difference of two lists. Most updates leave most answers as they are, so equal lists are passed over at once.
     pub(crate) fn between(alloc: Global, old: &IdRows, new: &IdRows) -> Result<Changed, NoMemory>
         ensures { IfOk result (λ change. IsDifference old.now change new.now) }
     {
+        if old.as_slice() == new.as_slice() {
+            return Ok(Changed::none(alloc));
+        }
         Ok(Changed {
             added: only(alloc, new, old)?,
             obsolete: only(alloc, old, new)?,
         })
+    }
+
+    // No change.
+    fn none(alloc: Global) -> Changed
+        ensures added { result.added.rows ≡ [] }
+        ensures obsolete { result.obsolete.rows ≡ [] }
+    {
+        Changed {
+            added: IdRows::new(alloc),
+            obsolete: IdRows::new(alloc),
+        }
     }
 }
 

@@ -46,15 +46,17 @@ fn message_of(alloc: Global, envelope: &Envelope) -> Result<Message, NoMemory>
     Message::new(alloc, bytes)
 }
 
-// The same, or `None` where it would be longer than a message may be.
+// The same, or `None` where it would be longer than a message may be. The envelope is spelled once, and no further than that.
 fn short_of(alloc: Global, envelope: &Envelope) -> Result<Option<Message>, NoMemory>
     ensures { IfOk result (λ found. MatchOption found (4194304 < length (canonical envelope.now)) (IsShort (canonical envelope.now))) }
 {
-    if ssap_encode::length(envelope) > CONFIRM_LIMIT {
-        return Ok(None);
+    match ssap_encode::to_bytes_within(alloc, envelope, CONFIRM_LIMIT as usize)? {
+        Some(bytes) => {
+            let message = Message::new(alloc, bytes)?;
+            Ok(Some(message))
+        }
+        None => Ok(None),
     }
-    let message = message_of(alloc, envelope)?;
-    Ok(Some(message))
 }
 
 /// An indication that is ready to be sent.

@@ -1,3 +1,4 @@
 pub mod Sending
 pub mod Gathering
 pub mod GatheringLaws
+pub mod BoundedLaws

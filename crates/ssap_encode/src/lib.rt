@@ -2,6 +2,7 @@
 //! spelling is made of are there for other things that are written to a sink.
 #![tactic(auto)]
 
+mod bounded;
 mod buffer;
 mod counting;
 mod elements;
@@ -15,6 +16,7 @@ mod text;
 mod triples;
 mod vector;
 
+pub use bounded::to_bytes_within;
 pub use counting::length;
 pub use fault::EncodeFault;
 pub use gather::{write, write_spelled};
