@@ -14,7 +14,7 @@ use Rattle.kp_talk.specs.Ending.{Outside, IsWaiting, GivesTalk, GivesPart}
 use Rattle.kp_talk.specs.Turn.{Talking, ReadsPiece, IsNearly, ComesTo}
 use Rattle.kp_talk.specs.declared.errand.Errand.{Errand}
 use Rattle.kp_talk.specs.declared.party.Party.{Party}
-use Rattle.kp_talk.specs.declared.ending.TheConstants.{INPUT_LIMIT}
+use Rattle.sib_io.specs.declared.reading.TheConstants.{INPUT_LIMIT}
 use Rattle.kp_talk.specs.declared.ending.Ending.{Ending}
 use Rattle.kp_talk.specs.declared.ending.Ending.TheVariants.{Finished, ReadFault, WriteFault, NoMemory, Spent}
 use Rattle.kp_talk.proofs.OutletsGrow.{cause_then, part_more, part_stays}

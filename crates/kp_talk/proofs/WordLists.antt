@@ -7,11 +7,13 @@ none : {A : Type 0} (xs : List A) → length xs < 1 → xs ≡ []
 none [] l = refl
 none (x ∷ xs) l = absurd (omega arith)
 
-one : {A : Type 0} (xs : List A) (a : A) → 1 ≤ length xs → length xs < 2 → a ≡ get_or xs 0 a → xs ≡ a ∷ []
+-- a list of one is its item
+pub one : {A : Type 0} (xs : List A) (a : A) → 1 ≤ length xs → length xs < 2 → a ≡ get_or xs 0 a → xs ≡ a ∷ []
 one [] a m l e = absurd (omega arith)
 one (x ∷ xs) a m l e = ap (λ w. w ∷ xs) (sym e) ∙ ap (λ w. a ∷ w) (none xs (omega arith))
 
-two : {A : Type 0} (xs : List A) (a b : A) → 2 ≤ length xs → length xs < 3 → a ≡ get_or xs 0 a → b ≡ get_or xs 1 b → xs ≡ a ∷ b ∷ []
+-- a list of two is its items
+pub two : {A : Type 0} (xs : List A) (a b : A) → 2 ≤ length xs → length xs < 3 → a ≡ get_or xs 0 a → b ≡ get_or xs 1 b → xs ≡ a ∷ b ∷ []
 two [] a b m l e f = absurd (omega arith)
 two (x ∷ xs) a b m l e f = ap (λ w. w ∷ xs) (sym e) ∙ ap (λ w. a ∷ w) (one xs b (omega arith) (omega arith) f)
 
@@ -42,7 +44,17 @@ pub seven : {A : Type 0} (xs : List A) (a b c d p q r : A) → 7 ≤ length xs �
 seven [] a b c d p q r m l e f g h i j k = absurd (omega arith)
 seven (x ∷ xs) a b c d p q r m l e f g h i j k = ap (λ w. w ∷ xs) (sym e) ∙ ap (λ w. a ∷ w) (six xs b c d p q r (omega arith) (omega arith) f g h i j k)
 
--- the bytes of four words
+-- the bytes of one word
+pub one_text : (words : List (String Global)) (a : String Global) (s : List ℕ) → words ≡ a ∷ [] → s ≡ string_bytes a → texts words ≡ s ∷ []
+one_text words a s is e = ap texts is ∙ ap (λ (l : List ℕ). l ∷ []) (sym e)
+
+-- of two
+pub two_texts : (words : List (String Global)) (a b : String Global) (s t : List ℕ) → words ≡ a ∷ b ∷ [] → s ≡ string_bytes a → t ≡ string_bytes b
+    → texts words ≡ s ∷ t ∷ []
+two_texts words a b s t is e f =
+    ap texts is ∙ ap (λ (l : List ℕ). l ∷ string_bytes b ∷ []) (sym e) ∙ ap (λ (l : List ℕ). s ∷ l ∷ []) (sym f)
+
+-- of four
 pub four_texts : (words : List (String Global)) (a b c d : String Global) (s t u v : List ℕ) → words ≡ a ∷ b ∷ c ∷ d ∷ [] → s ≡ string_bytes a → t ≡ string_bytes b → u ≡ string_bytes c
     → v ≡ string_bytes d → texts words ≡ s ∷ t ∷ u ∷ v ∷ []
 four_texts words a b c d s t u v is e f g h =

@@ -8,7 +8,7 @@ use Rattle.kp_talk.specs.Reading.{IsTalk, IsClean}
 use Rattle.kp_talk.specs.Saying.{Outlets, outlets, SaysPart}
 use Rattle.kp_talk.specs.declared.errand.Errand.{Errand}
 use Rattle.kp_talk.specs.declared.finish.Finish.{Finish}
-use Rattle.kp_talk.specs.declared.ending.TheConstants.{INPUT_LIMIT}
+use Rattle.sib_io.specs.declared.reading.TheConstants.{INPUT_LIMIT}
 use Rattle.kp_talk.specs.declared.ending.Ending.{Ending}
 use Rattle.kp_talk.specs.declared.ending.Ending.TheVariants.{Finished, ReadFault, WriteFault, NoMemory, Spent}
 

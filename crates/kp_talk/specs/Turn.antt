@@ -10,7 +10,7 @@ use Rattle.kp_talk.specs.Saying.{Outlets, Does}
 use Rattle.kp_talk.specs.Listening.{Listens}
 use Rattle.kp_talk.specs.Ending.{Outside, Outcome, KeepsCounts, GivesTalk, IsOver}
 use Rattle.kp_talk.specs.declared.errand.Errand.{Errand}
-use Rattle.kp_talk.specs.declared.ending.TheConstants.{INPUT_LIMIT}
+use Rattle.sib_io.specs.declared.reading.TheConstants.{INPUT_LIMIT}
 use Rattle.kp_talk.specs.declared.ending.Ending.{Ending}
 use Rattle.kp_talk.specs.declared.ending.Ending.TheVariants.{Finished, ReadFault, WriteFault, NoMemory, Spent}
 use Rattle.kp_talk.specs.declared.party.Party.{Party}

@@ -7,9 +7,6 @@ use m3_terms::NoMemory;
 use sib_io::Failed;
 use std::alloc::AllocFailed;
 
-/// The most bytes that a client takes from its link.
-pub const INPUT_LIMIT: u64 = 1_099_511_627_776;
-
 /// How a run of a client ends.
 #[derive(Clone, Copy, Debug, PartialEq, Eq)]
 pub enum Ending {

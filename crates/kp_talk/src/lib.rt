@@ -15,9 +15,9 @@ mod run;
 mod stage;
 mod words;
 
-pub use ending::{Ending, INPUT_LIMIT};
+pub use ending::Ending;
 pub use errand::{Errand, Task};
 pub use finish::{Break, Finish};
 pub use laws::{talks_are_once, talks_stay, words_name_one_errand};
 pub use run::talk;
-pub use words::{COUNT_LIMIT, errand_of};
+pub use words::{COUNT_LIMIT, count_of, errand_of, is_identifier};

@@ -8,14 +8,14 @@ ghost use Rattle.kp_talk.specs.Saying.{outlets};
 ghost use Rattle.kp_talk.specs.Ending.{Outside, outside, Ended};
 ghost use Rattle.kp_talk.specs.Turn.{Talking, IsTalking, StartsTalking, ComesTo, TurnsOn, ReadsPiece, HandsOn, PrintsLast};
 ghost use Rattle.kp_talk.specs.declared.errand.Errand.{Errand as ErrandOf};
-ghost use Rattle.kp_talk.specs.declared.ending.TheConstants.{INPUT_LIMIT};
+ghost use Rattle.sib_io.specs.declared.reading.TheConstants.{INPUT_LIMIT};
 ghost use Rattle.kp_talk.specs.declared.ending.Ending.TheVariants.{WriteFault as SinkFailed};
 
 use crate::hearing::{end_of, hear_all};
 use crate::lines::print_finish;
 use crate::party::Party;
-use crate::{Ending, Errand, INPUT_LIMIT};
-use sib_io::{Failed, Sink, Source};
+use crate::{Ending, Errand};
+use sib_io::{Failed, INPUT_LIMIT, Sink, Source, read_at_most};
 use ssap_decode::Decoder;
 use std::alloc::Global;
 
@@ -147,24 +147,10 @@ fn read_piece<S: Source, K: Sink, O: Sink>(
         (outside (S.left source.new) (K.given sink.new) (O.given out.new) (S.faults source.new) (K.faults sink.new) (O.faults out.new)) buffer.new result }
 {
     hand_on(sink, out)?;
-    match read_some(source, buffer, left) {
+    match read_at_most(source, buffer, left) {
         Ok(count) => Ok(count),
         Err(_) => Err(Ending::ReadFault),
     }
-}
-
-// Reads at most so many bytes.
-fn read_some<S: Source>(source: &mut S, buffer: &mut [u8], left: u64) -> Result<usize, Failed>
-    requires left { 0 < left }
-    requires room { 0 < length buffer.old }
-    ensures within { IfOk result (λ count. (count ≤ left) × (count ≤ length buffer.new)) }
-    ensures bytes { IfOk result (λ count. Consumes (S.left source.old) (S.left source.new) (take count buffer.new)) }
-    ensures end { IfOk result (λ count. count ≡ 0 → IsAtEnd (S.left source.new)) }
-    ensures failed { OnErr result (Keeps (S.left source.old) (S.left source.new)) }
-    ensures cause { HasCause (S.faults source.old) (S.faults source.new) result }
-{
-    let room = buffer.len().min(left as usize);
-    source.read(&mut buffer[..room])
 }
 
 // Hands on what was written and what was printed. Where the first fails, the second is tried all the same.

@@ -32,8 +32,8 @@ fn is_text(bytes: &[u8]) -> bool
     text_len(bytes) == bytes.len()
 }
 
-// Whether bytes are an identifier.
-fn is_identifier(bytes: &[u8]) -> bool
+/// Whether bytes are an identifier, as the name of a space or of a node: a text of 1 to 1,024 bytes.
+pub fn is_identifier(bytes: &[u8]) -> bool
     ensures { MatchBool result (IsSoundId bytes.now) (¬ IsSoundId bytes.now) }
 {
     if bytes.is_empty() || bytes.len() > NAME_LIMIT {
@@ -106,8 +106,8 @@ fn is_bare(text: &[u8]) -> bool
     text[0] != b'0' || text.len() == 1
 }
 
-// The count that a word is in decimal.
-fn count_of(word: &str) -> Option<u32>
+/// The count that a word is in decimal without a leading zero, from 0 to 1,000,000, or `None` where it is no such count.
+pub fn count_of(word: &str) -> Option<u32>
     ensures { MatchOption result ((count : ℕ) → ¬ (IsCount word.now count)) (IsCount word.now) }
 {
     if !is_bare(word.as_bytes()) {

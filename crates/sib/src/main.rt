@@ -27,10 +27,14 @@ const NO_MEMORY: u8 = 6;
 /// What is told where the words are no form.
 const FORMS: &str = "the words are none of these forms:
   sib replay SPACE
+  sib show
+  sib check
+  sib make N
+  sib trial N
   sib kp ADDRESS insert SPACE NODE SUBJECT PREDICATE KIND OBJECT
   sib kp ADDRESS query SPACE NODE TEXT
   sib kp ADDRESS watch SPACE NODE TEXT N
-KIND is uri or literal; N is a number; a script comes on standard input";
+KIND is uri or literal; N is a number; a script or a stream of messages comes on standard input";
 
 fn main(rt: HostRuntime) -> ExitCode {
     let status = match words(&rt) {
@@ -73,12 +77,12 @@ where
 {
     match words.split_first() {
         Some((first, rest)) if first.as_str() == "kp" => kp::kp(rt, rest),
-        _ => replay(rt, words),
+        _ => broker(rt, words),
     }
 }
 
 // Runs the broker over standard input and output.
-fn replay<R: Threads + Sync + AllocGlobal + Input + Print>(rt: &R, words: &[String]) -> u8 {
+fn broker<R: Threads + Sync + AllocGlobal + Input + Print>(rt: &R, words: &[String]) -> u8 {
     let mut source = StdSource::new(rt.reader());
     let Ok(mut sink) = GatheredSink::new(rt.alloc(), io::writer(rt)) else {
         return NO_MEMORY;

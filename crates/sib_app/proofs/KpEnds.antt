@@ -1,14 +1,13 @@
 -- What each status of a client's run means.
-use Rattle.std.proofs.Common.{◌≡◌, ◌≢◌, ◌∙◌, ap, sym, refl, subst, arith, ℕ, ◌<◌, ◌≤◌, List, [], ◌++◌, ◌⊎◌, inl, inr, length, Option, Some, append-nil, length-append}
-use Rattle.std.specs.Io.KnownBytes.{Consumes, IsAtEnd}
+use Rattle.std.proofs.Common.{◌≡◌, ◌∙◌, ap, sym, refl, subst, arith, ℕ, ◌<◌, ◌≤◌, List, [], ◌⊎◌, inl, inr, length, Some, length-append}
 use Rattle.std.proofs.KnownBytes.{Consumes-nil, Keeps-refl}
-use Rattle.sib_io.specs.Causes.{Rose, AppendsPart}
+use Rattle.sib_io.specs.Causes.{Rose}
 use Rattle.sib_io.proofs.KnownLemmas.{whole_part, kept_part, part_of_more}
 use Rattle.ssap_shape.specs.declared.status.Status.{Status}
 use Rattle.kp_talk.specs.declared.errand.Errand.{Errand}
 use Rattle.kp_talk.specs.declared.ending.Ending.{Ending}
 use Rattle.kp_talk.specs.declared.ending.Ending.TheVariants.{Finished, ReadFault, WriteFault, NoMemory, Spent}
-use Rattle.kp_talk.specs.declared.ending.TheConstants.{INPUT_LIMIT}
+use Rattle.sib_io.specs.declared.reading.TheConstants.{INPUT_LIMIT}
 use Rattle.kp_talk.specs.declared.finish.Finish.{Finish}
 use Rattle.kp_talk.specs.declared.finish.Finish.TheVariants.{Done, Refused, Ended as End, BrokenSubscription, BrokenGap, BrokenForm, BrokenConflict, BrokenMessage, BrokenStream, Over}
 use Rattle.kp_talk.specs.declared.finish.Break.TheVariants.{Syntax, Long, Cut}
@@ -20,7 +19,7 @@ use Rattle.kp_talk.specs.Ending.{Outside, Ended, ending_status, Outcome, GivesAl
 use Rattle.kp_talk.proofs.TalksOnce.{one_talk}
 use Rattle.kp_talk.proofs.TalksStay.{same_talk}
 use Rattle.sib_app.specs.KpRun.{IsWhole, IsRefused, IsBroken, IsOver, IsSpent, IsPart, NoneRose, IsComplete, Means}
-use Rattle.sib_app.proofs.RunLemmas.{left_behind, all_read}
+use Rattle.sib_replay.proofs.RunLemmas.{left_behind, all_read}
 
 -- the status of a finish is none of those of a run that failed
 finish_status : (finish : Finish) → (status_of finish ≡ 0) ⊎ (8 ≤ status_of finish)

@@ -1,5 +1,5 @@
 -- What a client's run prints is true, by the law on printed answers.
-use Rattle.std.proofs.Common.{◌≡◌, subst, ℕ, List}
+use Rattle.std.proofs.Common.{subst, ℕ, List}
 use Rattle.m3_terms.specs.Text.{IsText}
 use Rattle.kp_talk.specs.declared.errand.Errand.{Errand}
 use Rattle.kp_talk.specs.declared.errand.Task.{Task}

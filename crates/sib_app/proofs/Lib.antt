@@ -1,26 +1,5 @@
-pub mod DoingLemmas
-pub mod LinkLemmas
-pub mod TakeLemmas
-pub mod RingLemmas
-pub mod LinksStayClosed
-pub mod RingsDrain
-pub mod CallLemmas
-pub mod EventLemmas
-pub mod ReadOnce
-pub mod HeardPrefix
-pub mod HearingLemmas
-pub mod DeliveryLemmas
-pub mod SessionLemmas
-pub mod OrderLemmas
-pub mod FollowedLemmas
-pub mod OutputLemmas
-pub mod Letting
-pub mod OutputsExist
-pub mod ReplayLemmas
-pub mod FaultLemmas
-pub mod FeedLemmas
-pub mod EndLemmas
-pub mod TurnLemmas
-pub mod RunLemmas
+mod CommandsSaid
+mod StatusesMean
+mod TrialsMean
 pub mod KpEnds
 pub mod KpPrintsTruth

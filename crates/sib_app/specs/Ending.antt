@@ -1,130 +1,65 @@
--- How a replay ends, and what it has read and written then.
-use Rattle.std.specs.Prelude.{◌≡◌, ℕ, ◌+◌, ◌≤◌, ◌<◌, ◌⊎◌, List, [], ◌∷◌, ◌++◌, length, map, codes, Option, Some, string_bytes, String}
-use Rattle.std.specs.Global.{Global}
-use Rattle.std.specs.Io.KnownBytes.{Appends, Consumes, IsAtEnd}
-use Rattle.m3_terms.specs.Text.{IsText}
+-- How a command comes to its status, and what it has read and written then.
+use Rattle.std.specs.Prelude.{◌≡◌, ℕ}
 use Rattle.sib_io.specs.Causes.{Rose, AppendsPart}
-use Rattle.sib_script.specs.declared.entry.Entry.{Entry}
-use Rattle.sib_script.specs.Script.{IsScript, BeginsScript, Splits, IsPlace}
-use Rattle.sib_app.specs.Output.{Event, AreTaken, space_after, answers, rows, last_line, fault_line, IsOutput}
-use Rattle.sib_app.specs.declared.ending.TheConstants.{INPUT_LIMIT}
-use Rattle.sib_app.specs.declared.ending.Ending.{Ending}
-use Rattle.sib_app.specs.declared.ending.Fault.{Fault}
-use Rattle.sib_app.specs.declared.ending.Fault.TheVariants as fault
-use Rattle.sib_app.specs.declared.ending.Ending.TheVariants.{Done, BadScript, ReadFault, WriteFault, NoMemory, Spent}
+use Rattle.std.specs.Io.KnownBytes.{Appends}
+use Rattle.ssap_encode.specs.declared.fault.EncodeFault.{EncodeFault}
+use Rattle.ssap_encode.specs.declared.fault.EncodeFault.TheVariants as fault
+use Rattle.made_script.specs.Made.{made_script}
+use Rattle.stream_report.specs.Ending as report
+use Rattle.stream_report.specs.declared.verdict.Report.{Report}
+use Rattle.stream_report.specs.declared.ending.Ending.{Ending as ReportEnding}
+use Rattle.sib_replay.specs.Ending.{Outside, Ends, status_of}
+use Rattle.sib_replay.specs.Turn.{sink_of}
+use Rattle.sib_replay.specs.declared.ending.Ending.{Ending}
+use Rattle.sib_replay.specs.declared.ending.Ending.TheVariants.{Done, BadScript, ReadFault, WriteFault, NoMemory, Spent}
+use Rattle.replay_trial.specs.Trial.{Tried}
+use Rattle.sib_app.specs.Commands.{Command, Replay, Reports, Make, Trial}
 
--- the bytes of the words
-abbrev pub texts : List (String Global) → List (List ℕ)
-texts words = map string_bytes words
+-- what a report sees of the outside: all but the counter of rows
+abbrev pub for_report : Outside → report.Outside
+for_report outside = report.outside outside.left outside.given outside.read_faults outside.write_faults
 
--- an identifier is a text of 1 to 1,024 bytes
-pub record IsIdentifier (bytes : List ℕ) : Type 0 where
-  pub text : IsText bytes
-  pub some : 0 < length bytes
-  pub short : length bytes ≤ 1024
+-- no row was read
+abbrev pub ReadsNoRow : Outside → Outside → Type 0
+ReadsNoRow old new = new.steps ≡ old.steps
 
--- the words of a replay in the space of this name
-pub record IsReplay (words : List (List ℕ)) (name : List ℕ) : Type 0 where
-  pub said : words ≡ codes "replay" ∷ name ∷ []
-  pub named : IsIdentifier name
+-- the source is as before
+pub record KeepsSource (old new : Outside) : Type 0 where
+  pub left : new.left ≡ old.left
+  pub faults : new.read_faults ≡ old.read_faults
 
--- the words are those of a replay in some space
-abbrev pub IsForm : List (List ℕ) → Type 0
-IsForm words = (name : List ℕ) × IsReplay words name
+-- a script was made: all of it was given, or a prefix where the sink failed or memory ran out
+abbrev pub MakesScript : ℕ → Outside → Outside → Ending → Type 0
+MakesScript updates old new Done = Appends old.given new.given (made_script updates) × (new.write_faults ≡ old.write_faults)
+MakesScript updates old new BadScript = ⊥
+MakesScript updates old new ReadFault = ⊥
+MakesScript updates old new WriteFault = AppendsPart old.given new.given (made_script updates) × Rose old.write_faults new.write_faults
+MakesScript updates old new NoMemory = AppendsPart old.given new.given (made_script updates) × (new.write_faults ≡ old.write_faults)
+MakesScript updates old new Spent = ⊥
 
--- what is seen of a source, a sink and the counter of rows: what is left, what was given, their counts of faults, and the
--- rows that were read
-pub record Outside : Type 0 where
-  pub left : Option (List ℕ)
-  pub given : Option (List ℕ)
-  pub read_faults : ℕ
-  pub write_faults : ℕ
-  pub steps : ℕ
+-- how a make ends at a fault
+abbrev pub ending_at : EncodeFault → Ending
+ending_at fault.WriteFault = WriteFault
+ending_at fault.NoMemory = NoMemory
 
--- what is seen, from its parts
-abbrev pub outside : Option (List ℕ) → Option (List ℕ) → ℕ → ℕ → ℕ → Outside
-outside left given reads writes steps = record { left = left; given = given; read_faults = reads; write_faults = writes; steps = steps }
+-- a status came of the ending of a report
+abbrev pub EndsReport : Report → Outside → Outside → ℕ → Type 0
+EndsReport kind old new status = (ending : ReportEnding) × (status ≡ report.status_of ending) × report.Ended kind (for_report old) (for_report new) ending
+    × ReadsNoRow old new
 
--- the status of an ending
-abbrev pub status_of : Ending → ℕ
-status_of Done = 0
-status_of BadScript = 3
-status_of ReadFault = 4
-status_of WriteFault = 5
-status_of NoMemory = 6
-status_of Spent = 7
+-- a status came of the ending of a make
+abbrev pub EndsMake : ℕ → Outside → Outside → ℕ → Type 0
+EndsMake updates old new status = (ending : Ending) × (status ≡ status_of ending) × MakesScript updates old new ending
+    × KeepsSource old new × ReadsNoRow old new
 
--- how a replay ends at a fault of an entry
-abbrev pub ending_of : Fault → Ending
-ending_of fault.NoMemory = NoMemory
-ending_of fault.WriteFault = WriteFault
+-- a status came of the ending of a trial
+abbrev pub EndsTrial : ℕ → Outside → Outside → ℕ → Type 0
+EndsTrial updates old new status = (ending : Ending) × (status ≡ status_of ending) × Tried updates (sink_of old) (sink_of new) ending
+    × KeepsSource old new
 
--- the counter rose by no more than the rows that the calls of the whole entries read, in these bytes and whatever follows
-abbrev pub ReadsWithin : List ℕ → ℕ → ℕ → List ℕ → Type 0
-ReadsWithin name old new read = (more : List ℕ) (entries : List Entry) (rest : List ℕ) (events : List Event) → Splits (read ++ more) entries rest → AreTaken name entries events
-    → new ≤ old + rows name events
-
--- what was given is a prefix of all that is written for the bytes that were read and those that are left, where the
--- source tells them
-abbrev pub GivesPart : List ℕ → Option (List ℕ) → Option (List ℕ) → List ℕ → Option (List ℕ) → Type 0
-GivesPart name old new read left = (more output : List ℕ) → left ≡ Some more → IsOutput name (read ++ more) output → AppendsPart old new output
-
--- the answers to the whole entries in the bytes that were read were given, and no more
-pub record GivesAnswers (name : List ℕ) (old new : Option (List ℕ)) (read rest : List ℕ) : Type 0 where
-  pub entries : List Entry
-  pub events : List Event
-  pub splits : Splits read entries rest
-  pub taken : AreTaken name entries events
-  pub given : Appends old new (answers name events)
-
--- the bytes that were read are no script: the answers to the whole entries in them were given, and then the line with the
--- place of the fault
-pub record GivesFault (name : List ℕ) (old new : Option (List ℕ)) (read rest : List ℕ) : Type 0 where
-  pub entries : List Entry
-  pub events : List Event
-  pub place : ℕ
-  pub splits : Splits read entries rest
-  pub some : 0 < length rest
-  pub at : IsPlace read place
-  pub taken : AreTaken name entries events
-  pub given : Appends old new (answers name events ++ fault_line place)
-
--- the bytes that were read are a script, and its answers and the last line were given
-pub record GivesAll (name : List ℕ) (old new : Option (List ℕ)) (read : List ℕ) : Type 0 where
-  pub entries : List Entry
-  pub events : List Event
-  pub script : IsScript read entries
-  pub taken : AreTaken name entries events
-  pub given : Appends old new (answers name events ++ last_line (space_after name events))
-
--- neither count of faults rose
-pub record KeepsCounts (old new : Outside) : Type 0 where
-  pub reads : new.read_faults ≡ old.read_faults
-  pub writes : new.write_faults ≡ old.write_faults
-
--- what holds at each ending, of the bytes that were read: the ending names the count of faults that rose, if one did
-abbrev pub Outcome : List ℕ → Outside → Outside → List ℕ → Ending → Type 0
-Outcome name old new read Done = KeepsCounts old new × (length read < INPUT_LIMIT) × IsAtEnd new.left × GivesAll name old.given new.given read
-Outcome name old new read BadScript = KeepsCounts old new × (length read < INPUT_LIMIT) × (¬ (BeginsScript read) ⊎ IsAtEnd new.left)
-    × (rest : List ℕ) × GivesFault name old.given new.given read rest
-Outcome name old new read ReadFault = (new.write_faults ≡ old.write_faults) × Rose old.read_faults new.read_faults × (length read < INPUT_LIMIT)
-    × BeginsScript read × (rest : List ℕ) × GivesAnswers name old.given new.given read rest
-Outcome name old new read WriteFault = Rose old.write_faults new.write_faults × GivesPart name old.given new.given read new.left
-Outcome name old new read NoMemory = KeepsCounts old new × GivesPart name old.given new.given read new.left
-Outcome name old new read Spent = KeepsCounts old new × (length read ≡ INPUT_LIMIT) × GivesPart name old.given new.given read new.left
-
--- a replay ended so: it read some bytes, at most so many, within the rows of their calls
-pub record Ended (name : List ℕ) (old new : Outside) (ending : Ending) : Type 0 where
-  pub read : List ℕ
-  pub consumed : Consumes old.left new.left read
-  pub limited : length read ≤ INPUT_LIMIT
-  pub counts : ReadsWithin name old.steps new.steps read
-  pub outcome : Outcome name old new read ending
-
--- a status came of an ending
-abbrev pub Ends : List ℕ → Outside → Outside → ℕ → Type 0
-Ends name old new status = (ending : Ending) × (status ≡ status_of ending) × Ended name old new ending
-
--- an input is no script: the answers to the whole entries before its first fault were given, and then the line with its place
-abbrev pub GivesBefore : List ℕ → Option (List ℕ) → Option (List ℕ) → List ℕ → Type 0
-GivesBefore name old new input = ((entries : List Entry) → ¬ IsScript input entries) × (rest : List ℕ) × GivesFault name old new input rest
+-- how a command came to its status
+abbrev pub Comes : Command → Outside → Outside → ℕ → Type 0
+Comes (Replay name) old new status = Ends name old new status
+Comes (Reports kind) old new status = EndsReport kind old new status
+Comes (Make updates) old new status = EndsMake updates old new status
+Comes (Trial updates) old new status = EndsTrial updates old new status

@@ -8,7 +8,7 @@ use Rattle.session_core.specs.declared.call.Call.{Call}
 use Rattle.talk_laws.specs.Truth.{AreHandled, AreOf, AreSentOn, delivered_on, IsTrueLine, IsUnbroken}
 use Rattle.kp_talk.specs.declared.errand.Errand.{Errand}
 use Rattle.kp_talk.specs.declared.ending.Ending.{Ending}
-use Rattle.kp_talk.specs.declared.ending.TheConstants.{INPUT_LIMIT}
+use Rattle.sib_io.specs.declared.reading.TheConstants.{INPUT_LIMIT}
 use Rattle.kp_talk.specs.declared.finish.Finish.{Finish}
 use Rattle.kp_talk.specs.declared.finish.Finish.TheVariants.{Done, Refused, Ended as End, Over}
 use Rattle.kp_talk.specs.Talk.{Talk}

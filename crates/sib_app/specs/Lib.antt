@@ -1,10 +1,5 @@
-pub mod Output
-pub mod Lines
-pub mod Followed
-pub mod Examples
-pub mod Limits
+pub mod Commands
 pub mod Ending
-pub mod Doing
-pub mod Session
-pub mod Turn
+pub mod Means
+pub mod Laws
 pub mod KpRun

@@ -5,3 +5,6 @@ pub mod Reading
 pub mod Existing
 pub mod Places
 pub mod Standing
+pub mod WrittenLines
+pub mod WrittenPieces
+pub mod WrittenLaws

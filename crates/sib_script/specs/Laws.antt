@@ -2,6 +2,7 @@
 use Rattle.std.specs.Prelude.{◌≡◌, ◌⊎◌, ℕ, ◌<◌, List, [], ◌∷◌, ◌++◌, length}
 use Rattle.sib_script.specs.Script.{entry_spelling, script_spelling, IsEntry, AreEntries, IsScript, BeginsScript, Splits, IsPlace}
 use Rattle.sib_script.specs.Reading.{IsPart, IsNoPart}
+use Rattle.sib_script.specs.Standing.{IsNextOf, AreAll}
 use Rattle.sib_script.specs.declared.entry.Entry.{Entry}
 
 -- bytes begin with at most one entry, so no entry's spelling begins another's
@@ -63,3 +64,26 @@ PlacesOnce = (bytes : List ℕ) (place other : ℕ) → IsPlace bytes place → 
 -- all bytes have such an offset
 abbrev pub PlacesExist : Type 0
 PlacesExist = (bytes : List ℕ) → (place : ℕ) × IsPlace bytes place
+
+-- entries that a script may have are written, one behind another, as a script of these entries and of no others
+abbrev pub WrittenIsScript : Type 0
+WrittenIsScript = (entries : List Entry) → AreEntries entries
+    → IsScript (script_spelling entries) entries × ((others : List Entry) → IsScript (script_spelling entries) others → others ≡ entries)
+
+-- a script behind which one more entry is written is a script of one entry more
+abbrev pub ScriptsGrow : Type 0
+ScriptsGrow = (bytes : List ℕ) (entries : List Entry) (entry : Entry) → IsScript bytes entries → IsEntry entry
+    → IsScript (bytes ++ entry_spelling entry) (entries ++ entry ∷ [])
+
+-- a reader of a prefix of what was written meets no fault, since some script begins with it
+abbrev pub PrefixesBegin : Type 0
+PrefixesBegin = (bytes more : List ℕ) (entries : List Entry) → IsScript (bytes ++ more) entries → BeginsScript bytes
+
+-- behind so many entries of what was read so far, the next one is the next that was written
+abbrev pub NextIsWritten : Type 0
+NextIsWritten = (bytes more : List ℕ) (entries : List Entry) (given : ℕ) (entry : Entry) → IsScript (bytes ++ more) entries → IsNextOf bytes given entry
+    → (before after : List Entry) × (entries ≡ before ++ entry ∷ after) × (given ≡ length before)
+
+-- a reader that read all of it and gave all entries gave as many as were written
+abbrev pub AllAreWritten : Type 0
+AllAreWritten = (bytes : List ℕ) (entries : List Entry) (given : ℕ) → IsScript bytes entries → AreAll bytes given → given ≡ length entries

@@ -3,3 +3,4 @@ pub mod Reading
 pub mod Laws
 pub mod Standing
 pub mod Steps
+pub mod Examples

@@ -1,6 +1,6 @@
 //! Laws of the format of scripts. Each function does nothing: its contract is the law.
 
-ghost use Rattle.sib_script.specs.Laws.{EntriesAreTold, SplitsOnce, SplitsGrow, ScriptsSplit, RestIsNoScript, PartsSplit, DeadEnds, EntriesGrow, PlacesOnce, SplitsExist, BeginningIsDecided, PlacesExist};
+ghost use Rattle.sib_script.specs.Laws.{EntriesAreTold, SplitsOnce, SplitsGrow, ScriptsSplit, RestIsNoScript, PartsSplit, DeadEnds, EntriesGrow, PlacesOnce, SplitsExist, BeginningIsDecided, PlacesExist, WrittenIsScript, ScriptsGrow, PrefixesBegin, NextIsWritten, AllAreWritten};
 
 /// Bytes are read as entries in one way, and what was read stays as more bytes follow.
 pub fn one_reading()
@@ -33,4 +33,14 @@ pub fn splits_exist()
     ensures splits { SplitsExist }
     ensures begins { BeginningIsDecided }
     ensures places { PlacesExist }
+{}
+
+/// What is written for entries is a script of exactly these entries. A reader of it meets no fault and gives them back, each
+/// in its turn, and no others.
+pub fn written_is_read()
+    ensures script { WrittenIsScript }
+    ensures longer { ScriptsGrow }
+    ensures begins { PrefixesBegin }
+    ensures next { NextIsWritten }
+    ensures all { AllAreWritten }
 {}

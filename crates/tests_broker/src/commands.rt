@@ -3,11 +3,12 @@
 ghost use Rattle.std.specs.Prelude.{◌≡◌, ◌<◌};
 
 use m3_terms::{Bytes, Steps};
-use sib_app::{
-    INPUT_LIMIT, messages_are_written_as_sent, outputs_are_told, outputs_exist, sib_run,
-    spaces_are_run, subscriptions_are_followed,
+use sib_app::sib_run;
+use sib_io::{Calls, INPUT_LIMIT, MemSink, MemSource};
+use sib_replay::{
+    messages_are_written_as_sent, outputs_are_told, outputs_exist, spaces_are_run,
+    subscriptions_are_followed,
 };
-use sib_io::{Calls, MemSink, MemSource};
 use std::alloc::Global;
 use std::marker::Brand;
 use std::process::Abort;

@@ -1,6 +1,8 @@
-//! Scripts are read in pieces of several lengths, and faults are found at their offsets.
+//! Scripts are read in pieces of several lengths, and faults are found at their offsets. Entries are written as they are read.
 
-use sib_script::{Entry, ScriptFault, ScriptReader};
+use m3_terms::Bytes;
+use sib_io::{Calls, Failed, MemSink};
+use sib_script::{Entry, ScriptFault, ScriptReader, write_entry};
 use std::alloc::Global;
 use std::test::Fail;
 
@@ -103,5 +105,30 @@ fn scripts_in_pieces(rt: HostRuntime) -> Result<(), Fail> {
             assert_eq!(rt; (log.len(), fault), (row.1, row.2), "cut {cut}");
         }
     }
+    Ok(())
+}
+
+#[test]
+fn entries_are_written(rt: HostRuntime) -> Result<(), Fail> {
+    let alloc = rt.alloc();
+    let bytes = Bytes::from_slice(alloc, b"a\nb")?;
+    let delivery = Entry::Bytes { link: 12, bytes };
+    let end = Entry::End { link: 4294967295 };
+    let mut sink = MemSink::new(alloc, 100, Calls::new(alloc))?;
+    assert_eq!(rt; write_entry(&Entry::NewLink, &mut sink), Ok(()));
+    assert_eq!(rt; write_entry(&delivery, &mut sink), Ok(()));
+    assert_eq!(rt; write_entry(&end, &mut sink), Ok(()));
+    assert!(rt; sink.bytes() == b"+\n>12 3\na\nb\n-4294967295\n".as_slice());
+    Ok(())
+}
+
+#[test]
+fn a_full_sink_has_a_prefix_of_an_entry(rt: HostRuntime) -> Result<(), Fail> {
+    let alloc = rt.alloc();
+    let bytes = Bytes::from_slice(alloc, b"abc")?;
+    let mut sink = MemSink::new(alloc, 8, Calls::new(alloc))?;
+    let delivery = Entry::Bytes { link: 1, bytes };
+    assert_eq!(rt; write_entry(&delivery, &mut sink), Err(Failed));
+    assert!(rt; sink.bytes() == b">1 3\nabc".as_slice());
     Ok(())
 }

@@ -3,7 +3,7 @@ use Rattle.ssap_decode.specs.Decoding.{fresh}
 use Rattle.kp_talk.specs.Ending.{Outside, outside}
 use Rattle.kp_talk.specs.Turn.{Talking}
 use Rattle.kp_talk.specs.declared.errand.Errand.{Errand}
-use Rattle.kp_talk.specs.declared.ending.TheConstants.{INPUT_LIMIT}
+use Rattle.sib_io.specs.declared.reading.TheConstants.{INPUT_LIMIT}
 use Rattle.kp_talk.proofs.run.read_all.Given as goal
 
 -- some bytes were read and answered, and some may still be read

@@ -2,7 +2,7 @@ use Rattle.std.proofs.Common.{ap, arith, ℕ, ◌++◌, ◌≤◌, List, take, l
 use Rattle.std.proofs.lemmas.Result.{err_from_is_err_and}
 use Rattle.kp_talk.specs.Saying.{Outlets, outlets}
 use Rattle.kp_talk.specs.Ending.{Outside, outside}
-use Rattle.kp_talk.specs.declared.ending.TheConstants.{INPUT_LIMIT}
+use Rattle.sib_io.specs.declared.reading.TheConstants.{INPUT_LIMIT}
 use Rattle.kp_talk.proofs.TurnsGoOn.{turn_failed, turn_read, turn_over, turn_ends, turn_spends, turn_goes_on, hears_as}
 use Rattle.kp_talk.proofs.run.turn.Goals as goal
 

@@ -1,0 +1,4 @@
+pub mod PlainTexts
+pub mod SpellingLengths
+pub mod MessageLengths
+pub mod MadeEntries

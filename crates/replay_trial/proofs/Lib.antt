@@ -1,0 +1,9 @@
+pub mod Cuts
+pub mod Headers
+pub mod Counting
+pub mod Fronts
+pub mod LinkSums
+pub mod TrialsTold
+pub mod EntriesFit
+pub mod PlayingOn
+pub mod TrialsEnd
