@@ -1,12 +1,14 @@
 #!/usr/bin/env bash
 # Runs the built program on each scene and compares what it writes: NAME.words has its words, one a line,
-# NAME.script its input, and NAME.expected what it must write.
-cd "$(dirname "$0")" || exit 1
-program="../crates/sib/out/sib"
+# NAME.script its input, and NAME.expected what it must write. commands.sh has the other commands. SIB names another program than
+# the built one.
+cd "$(dirname "$0")/.." || exit 1
+program="$(realpath -m "${SIB:-crates/sib/out/sib}")"
 if [ ! -x "$program" ]; then
-    echo "examples: skipped, since there is no built program at crates/sib/out/sib"
+    echo "examples: skipped, since there is no built program at ${SIB:-crates/sib/out/sib}"
     exit 0
 fi
+cd examples || exit 1
 passed=0
 failed=0
 for script in *.script; do
@@ -358,5 +360,6 @@ else
     echo "examples: 257 links are answered otherwise"
     failed=$((failed + 1))
 fi
+. ./commands.sh
 echo "examples: $passed passed, $failed failed"
 [ "$failed" -eq 0 ]
