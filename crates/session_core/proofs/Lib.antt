@@ -1,3 +1,7 @@
+pub mod RepliesSuit
+pub mod TakesAddUp
+pub mod OpenedStays
+pub mod SharedSpaces
 pub mod PatternsNamed
 pub mod NumbersMeanTerms
 pub mod NumbersCountOnce

@@ -8,7 +8,7 @@ use Rattle.session_core.specs.declared.call.Call.{Call}
 use Rattle.session_core.specs.declared.call.Reply.{Reply}
 
 -- the space after calls and one more
-run_from-one : (space : Space) (calls : List Call) (call : Call) → run_from space (calls ++ call ∷ []) ≡ (step (run_from space calls) call).space
+pub run_from-one : (space : Space) (calls : List Call) (call : Call) → run_from space (calls ++ call ∷ []) ≡ (step (run_from space calls) call).space
 run_from-one space [] call = refl
 run_from-one space (one ∷ calls) call = run_from-one (step space one).space calls call
 

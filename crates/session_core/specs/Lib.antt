@@ -15,6 +15,7 @@ pub mod Ranks
 pub mod Reads
 pub mod Kept
 pub mod Runs
+pub mod Opened
 pub mod Watching
 pub mod Indicated
 pub mod Laws

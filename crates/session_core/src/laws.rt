@@ -3,6 +3,7 @@
 ghost use Rattle.session_core.specs.Laws.{UpdatesAreExact, UpdatesKeepOrder, NameStays, NodesInOrder, TriplesInOrder, UpdatesCounted, GraphOfUpdates, SentTakenWaiting, TakenOfSent, OtherLinksStay};
 ghost use Rattle.session_core.specs.Watching.{AnswersAreFollowed};
 ghost use Rattle.session_core.specs.Indicated.{ChangesAreSent};
+ghost use Rattle.session_core.specs.Opened.{OpenedStays, OpenedIsOpened, RepliesSuit};
 
 /// After an update a graph has the triples that were inserted, and those that it had and that fit no removed pattern, in
 /// order and each once.
@@ -49,4 +50,11 @@ pub fn changes_are_sent()
 /// What comes on a link changes no other link but those of subscriptions.
 pub fn other_links_stay()
     ensures { OtherLinksStay }
+{}
+
+/// A link that was opened stays so, whatever follows, and only replies that suit come to a call that names one.
+pub fn opened_links_stay()
+    ensures stays { OpenedStays }
+    ensures opened { OpenedIsOpened }
+    ensures suits { RepliesSuit }
 {}

@@ -9,6 +9,7 @@ mod facts;
 mod join;
 mod laws;
 mod leave;
+mod machine;
 mod numbers;
 mod query;
 mod ranks;
@@ -23,8 +24,9 @@ mod watch;
 
 pub use call::{Call, Reply};
 pub use laws::{
-    answers_are_followed, changes_are_sent, messages_stay_in_order, other_links_stay,
-    runs_stay_in_order, taken_is_a_prefix_of_sent, updates_make_the_graph, updates_remove_first,
+    answers_are_followed, changes_are_sent, messages_stay_in_order, opened_links_stay,
+    other_links_stay, runs_stay_in_order, taken_is_a_prefix_of_sent, updates_make_the_graph,
+    updates_remove_first,
 };
 pub use link_table::LinkState;
 pub use ring::Ring;

@@ -30,8 +30,8 @@ pub const CONFIRM_LIMIT: u64 = 4_194_304;
 /// A space, which does one call at a time.
 #[derive(Drop)]
 pub struct Core {
-    store: Store,
-    count: u64,
+    pub(crate) store: Store,
+    pub(crate) count: u64,
 }
 
 impl Model for Core {

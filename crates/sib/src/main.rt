@@ -2,6 +2,7 @@
 #![tactic(auto)]
 
 mod kp;
+mod serve;
 
 ghost use Rattle.std.specs.Prelude.{◌≡◌, ◌<◌};
 
@@ -10,13 +11,16 @@ use sib_app::sib_run;
 use sib_io::{GatheredSink, Sink, Source, StdSource};
 use std::alloc::Global;
 use std::env;
-use std::io::{self, ErrorKind, Input, Print};
+use std::io::{self, Eprint, ErrorKind, Input, Print};
 use std::marker::Brand;
 use std::net::{Net, TcpListener, TcpStream};
 use std::process::ExitCode;
+use std::random::RandomSource;
 use std::rt::Env;
+use std::sync::Wait;
 use std::sync::ledger::{Blank, Ledger};
 use std::thread::Threads;
+use std::time::Clock;
 
 /// The status where the words are no form.
 const BAD_WORDS: u8 = 2;
@@ -31,6 +35,7 @@ const FORMS: &str = "the words are none of these forms:
   sib check
   sib make N
   sib trial N
+  sib serve SPACE ADDRESS
   sib kp ADDRESS insert SPACE NODE SUBJECT PREDICATE KIND OBJECT
   sib kp ADDRESS query SPACE NODE TEXT
   sib kp ADDRESS watch SPACE NODE TEXT N
@@ -65,18 +70,27 @@ fn refusal(kind: ErrorKind, otherwise: u8) -> u8 {
     }
 }
 
-// Runs the client where the first word is `kp`, and else the broker.
+// Runs the client where the first word is `kp`, the server where it is `serve`, and else the broker over standard input.
 fn run<R>(rt: &R, words: &[String]) -> u8
 where
     R: Net<Listener = TcpListener, Stream = TcpStream>
         + Threads
+        + Wait
+        + Clock
+        + RandomSource
         + Sync
+        + Copy
+        + Send
+        + Drop
+        + 'static
         + AllocGlobal
         + Input
-        + Print,
+        + Print
+        + Eprint,
 {
     match words.split_first() {
         Some((first, rest)) if first.as_str() == "kp" => kp::kp(rt, rest),
+        Some((first, rest)) if first.as_str() == "serve" => serve::serve(rt, rest),
         _ => broker(rt, words),
     }
 }

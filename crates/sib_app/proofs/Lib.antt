@@ -3,3 +3,4 @@ mod StatusesMean
 mod TrialsMean
 pub mod KpEnds
 pub mod KpPrintsTruth
+pub mod SpacesCross

@@ -1,0 +1,3 @@
+pub mod LooksTell
+pub mod LinkOpens
+pub mod ServersGoOn

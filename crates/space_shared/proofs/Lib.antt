@@ -1,0 +1,9 @@
+pub mod Exchanges
+pub mod LawsOfLinks
+pub mod Deliveries
+pub mod InputsRead
+pub mod OpenedLinks
+pub mod CallsAnswered
+pub mod Heard
+pub mod TakenByOneSeat
+pub mod PumpsGoOn

@@ -1,0 +1,7 @@
+pub mod Exchanges
+pub mod Input
+pub mod Output
+pub mod Calling
+pub mod Listening
+pub mod Reads
+pub mod Pumping
