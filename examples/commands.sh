@@ -166,7 +166,7 @@ for page in README.md docs/PROTOCOL.md; do
         wrote="$(cd .. && bash -c "${command//bin\/sib/$program}" 2>"$scratch/error" | paste -s -d ';' | sed 's/;/; /g')"
         [ "$wrote" = "${writes%% (*}" ]; count "$page: $command"
         tried=$((tried + 1))
-    done < <(grep 'bin/sib .*  # ' "../$page" | grep -v ' kp \|lamp\.script\|sib build')
+    done < <(grep 'bin/sib .*  # ' "../$page" | grep -v ' kp \|sib serve \|lamp\.script\|sib build')
     [ "$tried" -ge 6 ]; count "$page has lines to paste"
 done
 
